@@ -1,0 +1,16 @@
+-- Counts of faults. A counter in a machine word stays at its last value.
+use Rattle.std.specs.Prelude.{◌≡◌, ◌⊎◌, ◌<◌, ◌≤◌, ℕ, Bool, true}
+
+-- how often it happened, and whether the counter stands at its end, so that more isn't counted
+pub record Count : Type 0 where
+  pub value : ℕ
+  pub stands : Bool
+
+-- it didn't fall
+pub record Later (old new : Count) : Type 0 where
+  pub value : old.value ≤ new.value
+  pub stands : old.stands ≡ true → new.stands ≡ true
+
+-- it rose, or stands at its end
+abbrev pub Rose : Count → Count → Type 0
+Rose old new = (old.value < new.value) ⊎ (new.stands ≡ true)

@@ -1,0 +1,20 @@
+//! The types that every layer of the path speaks of: sectors, requests, plans, fault texts and the lines of a trace.
+#![tactic(auto)]
+
+mod block;
+mod ends;
+mod faults;
+mod marks;
+mod plan;
+mod sequence;
+mod trace;
+
+pub use block::{Block, BlockList, Bytes};
+pub use ends::{Halt, NoMemory, TextEnd};
+pub use faults::{
+    ArrayHit, ArrayHits, BusKind, Faults, Hit, HitList, Letter, LetterList, WordList,
+};
+pub use marks::{Kept, Mark, MarkList, Put};
+pub use plan::{Fill, Job, JobList, Plan, block_of};
+pub use sequence::Sequence;
+pub use trace::{End, Item, ItemList, Why};
