@@ -1,8 +1,11 @@
 -- Requests and the contents that they write.
-use Rattle.std.specs.Prelude.{ℕ, ◌+◌, ◌*◌, ◌%◌, ◌<◌, List, [], length, map, replicate, slice_index_or}
+use Rattle.std.specs.Prelude.{All, sum_by, ◌≤◌, ℕ, ◌+◌, ◌*◌, ◌%◌, ◌<◌, List, [], length, map, replicate, slice_index_or}
 use Rattle.std.specs.List.{range_with_len}
 use Rattle.storage_model.specs.declared.block.Block.{Block}
 use Rattle.storage_model.specs.declared.plan.Fill.{Fill}
+use Rattle.storage_model.specs.declared.plan.Job.{Job}
+use Rattle.storage_model.specs.declared.plan.Job.TheVariants.{Read, Write, Flush, Barrier, Status}
+use Rattle.storage_model.specs.declared.plan.Plan.{Plan}
 use Rattle.storage_model.specs.declared.plan.Fill.TheVariants.{Same, Ramp, Listed}
 
 -- the list has the block that a fill names
@@ -20,3 +23,28 @@ abbrev pub block_at : List Block → Fill → ℕ → Block
 block_at blocks (Same byte) k = record { 0 = replicate 512 byte }
 block_at blocks (Ramp start) k = record { 0 = ramp start k 512 }
 block_at blocks (Listed place) k = slice_index_or blocks (place + k) (record { 0 = [] })
+
+-- how many sectors a request moves
+abbrev pub blocks_of : Job → ℕ
+blocks_of (Read sector blocks high) = blocks
+blocks_of (Write sector blocks fill forced reliable high) = blocks
+blocks_of _ = 0
+
+-- the list has all blocks that a write names
+abbrev pub IsFillListed : List Block → Fill → ℕ → Type 0
+IsFillListed blocks (Listed place) count = place + count ≤ length blocks
+IsFillListed blocks fill count = Unit {0}
+
+abbrev pub IsValidJob : List Block → Job → Type 0
+IsValidJob blocks (Read sector count high) = (1 ≤ count) × (count ≤ 1024)
+IsValidJob blocks (Write sector count fill forced reliable high) = (1 ≤ count) × (count ≤ 1024) × IsFillListed blocks fill count
+IsValidJob blocks _ = Unit {0}
+
+-- the numbers of a plan and of its requests are within the limits
+pub record IsValidPlan (plan : Plan) : Type 0 where
+  pub depth : (1 ≤ plan.depth) × (plan.depth ≤ 31)
+  pub lines : (1 ≤ plan.lines) × (plan.lines ≤ 1024)
+  pub coalesce : plan.coalesce ≤ 31
+  pub job : All (IsValidJob plan.blocks) plan.jobs
+  pub jobs : length plan.jobs ≤ 65536
+  pub blocks : sum_by blocks_of plan.jobs ≤ 131072

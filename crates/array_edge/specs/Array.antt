@@ -1,0 +1,45 @@
+-- What an array of flash pages stands for, and what its calls do to it.
+use Rattle.std.specs.Prelude.{◌≡◌, ◌⊎◌, ℕ, Bool, false, List, [], Option, IfSome, Result, Err, IsErrOf, OnOk, option_map, slice_index_or, slice_set}
+use Rattle.storage_model.specs.Count.{Count, Later, Rose}
+use Rattle.storage_model.specs.Granule.{IsMix}
+use Rattle.storage_model.specs.declared.block.Block.{Block}
+use Rattle.array_edge.specs.declared.array.ArrayEnd.{ArrayEnd}
+use Rattle.array_edge.specs.declared.array.ArrayEnd.TheVariants.{Failed, PowerLost}
+
+-- `told`: the pages, where the array tells them. `programs` and `fetches` number the calls made with the power on.
+pub record ArrayState : Type 0 where
+  pub told : Option (List Block)
+  pub count : ℕ
+  pub powered : Bool
+  pub faults : Count
+  pub cuts : Count
+  pub programs : Count
+  pub fetches : Count
+
+-- a page of those that are told
+abbrev pub page_at : List Block → ℕ → Block
+page_at pages page = slice_index_or pages page (record { 0 = [] })
+
+-- the pages with another block at one place
+abbrev pub with_page : Option (List Block) → ℕ → Block → Option (List Block)
+with_page told page block = option_map (λ pages. slice_set pages page block) told
+
+-- the block is that page, where pages are told
+abbrev pub HasPage : Option (List Block) → ℕ → Block → Type 0
+HasPage told page block = IfSome told (λ pages. block ≡ page_at pages page)
+
+-- each granule of that page is old or new, and the other pages are as they were
+pub record IsTorn (old : Option (List Block)) (page : ℕ) (block : Block) (new : Option (List Block)) : Type 0 where
+  pub left : Block
+  pub mix : IfSome old (λ pages. IsMix (page_at pages page) block left)
+  pub told : new ≡ with_page old page left
+
+-- How a call ends. Counts don't fall; `Failed` is told only where the array failed in this call, `PowerLost` only where
+-- the power was off or was cut in this call; with the power off nothing changes.
+pub record Ends (old new : ArrayState) (result : Result (Unit {0}) ArrayEnd) : Type 0 where
+  pub faults : Later old.faults new.faults
+  pub cuts : Later old.cuts new.cuts
+  pub ok : OnOk result (new.powered ≡ old.powered)
+  pub failed : IsErrOf result Failed → Rose old.faults new.faults × (new.powered ≡ old.powered)
+  pub lost : IsErrOf result PowerLost → (Rose old.cuts new.cuts ⊎ (old.powered ≡ false)) × (new.powered ≡ false)
+  pub off : old.powered ≡ false → (result ≡ Err PowerLost) × (new ≡ old)

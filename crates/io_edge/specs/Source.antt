@@ -1,0 +1,10 @@
+-- What a call of a source moves.
+use Rattle.std.specs.Prelude.{◌≡◌, ℕ, ◌<◌, List, [], length, take, drop, Option, Some, None, Result, Ok, Err}
+use Rattle.io_edge.specs.declared.Failed.{Failed}
+
+-- the next n bytes stand at the front of the buffer and are gone from what is left; none of a buffer that isn't empty
+-- means that nothing is left; after a failure nothing was moved
+abbrev pub Fills : Option (List ℕ) → List ℕ → Result ℕ Failed → Option (List ℕ) → Type 0
+Fills None buffer result later = later ≡ None
+Fills (Some bytes) buffer (Ok n) later = (take n buffer ≡ take n bytes) × (later ≡ Some (drop n bytes)) × (0 < length buffer → n ≡ 0 → bytes ≡ [])
+Fills (Some bytes) buffer (Err failed) later = later ≡ Some bytes

@@ -1,0 +1,12 @@
+//! Texts come from sources and go to sinks, and either may fail.
+#![tactic(auto)]
+
+mod sink;
+mod source;
+
+pub use sink::Sink;
+pub use source::Source;
+
+/// A source or a sink failed; its count of faults says so.
+#[derive(Clone, Copy, Debug, PartialEq, Eq)]
+pub struct Failed;
