@@ -1,0 +1,5 @@
+//! The lines of a trace.
+#![tactic(auto)]
+
+mod line;
+mod write;
