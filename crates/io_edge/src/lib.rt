@@ -1,9 +1,11 @@
 //! Texts come from sources and go to sinks, and either may fail.
 #![tactic(auto)]
 
+mod put;
 mod sink;
 mod source;
 
+pub use put::put_all;
 pub use sink::Sink;
 pub use source::Source;
 
