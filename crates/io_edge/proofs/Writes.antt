@@ -17,7 +17,7 @@ pub took_part-here : {Self : Type 0} {took : Self → List ℕ → Self → Type
 took_part-here both done piece a b c part first nothing = record {
   count = done;
   part = part;
-  taken = rw append-nil at (both.join a b c (take done piece) [] first nothing)
+  taken = rw append-nil at (both.join a b c (take done piece) [] first nothing);
 }
 
 -- what was taken first, and then the text that was written next
@@ -31,7 +31,7 @@ pub took_part-after : {Self : Type 0} {took : Self → List ℕ → Self → Typ
 took_part-after both a b c front text first next = record {
   count = length front + next.count;
   part = let h : next.count < length text = next.part in omega (arith, length-append front text);
-  taken = rw (take-append-add front text next.count) (both.join a b c front (take next.count text) first next.taken)
+  taken = rw (take-append-add front text next.count) (both.join a b c front (take next.count text) first next.taken);
 }
 
 -- a part of a text is a part of what begins with the text
@@ -41,5 +41,5 @@ took_part-longer a c front text part = record {
   count = part.count;
   part = let h : part.count < length front = part.part in omega (arith, length-append front text);
   taken = let h : part.count ≤ length front = let k : part.count < length front = part.part in omega arith in
-      rw (take-append-le part.count front text) part.taken
+      rw (take-append-le part.count front text) part.taken;
 }

@@ -4,10 +4,12 @@
 mod put;
 mod sink;
 mod source;
+mod take;
 
 pub use put::put_all;
 pub use sink::Sink;
 pub use source::Source;
+pub use take::{TakeEnd, take_all};
 
 /// A source or a sink failed; its count of faults says so.
 #[derive(Clone, Copy, Debug, PartialEq, Eq)]

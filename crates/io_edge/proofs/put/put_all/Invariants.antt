@@ -7,7 +7,7 @@ abbrev pub invariant-loop-done : goal.invariant-loop-done
 invariant-loop-done g l = record {
   within : l.done ≤ length l.piece;
   taken : g.K.Sink.took l.initial.out (take l.done l.piece) l.out;
-  faults : Later (g.K.Sink.faults l.initial.out) (g.K.Sink.faults l.out)
+  faults : Later (g.K.Sink.faults l.initial.out) (g.K.Sink.faults l.out);
 }
 
 abbrev pub decreases-loop-done : goal.decreases-loop-done
