@@ -1,11 +1,15 @@
 //! Texts come from sources and go to sinks, and either may fail.
 #![tactic(auto)]
 
+mod put;
 mod sink;
 mod source;
+mod take;
 
+pub use put::put_all;
 pub use sink::Sink;
 pub use source::Source;
+pub use take::{TakeEnd, take_all};
 
 /// A source or a sink failed; its count of faults says so.
 #[derive(Clone, Copy, Debug, PartialEq, Eq)]
