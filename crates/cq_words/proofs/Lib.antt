@@ -1,0 +1,4 @@
+pub mod FieldLaws
+mod MaskedWrites
+pub mod WordReads
+mod WordWrites
