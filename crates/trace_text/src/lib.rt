@@ -3,3 +3,5 @@
 
 mod line;
 mod write;
+
+pub use write::put_item;

@@ -1,9 +1,22 @@
 ghost use Rattle.std.specs.Prelude.{◌≡◌, ◌≤◌, ◌++◌, ◌∷◌, [], codes, decimal, length, OnErr};
+ghost use Rattle.storage_model.specs.Count.{Later, Rose};
+ghost use Rattle.io_edge.specs.Sink.{Wrote};
 ghost use Rattle.arrayvec.specs.ArrayVec.{array_vec_len};
 ghost use Rattle.trace_text.specs.Trace.{word, data_text, hex_word, lines_text, id_text, kind_text, why_text, letter_text, end_text, kept_text, item_words, item_text};
 
 use crate::line::Line;
+use io_edge::{Failed, Sink, put_all};
 use storage_model::{Block, BusKind, End, Item, Letter, Why};
+
+/// Writes the line of an item, with its line feed, as one piece. After `Failed` a part of it was taken.
+pub fn put_item<K: Sink>(item: &Item, out: &mut K) -> Result<(), Failed>
+    ensures wrote { Wrote K.took out.old (item_text item.now) result out.new }
+    ensures faults { Later (K.faults out.old) (K.faults out.new) }
+    ensures failed { OnErr result (Rose (K.faults out.old) (K.faults out.new)) }
+{
+    let line = line_of(item);
+    put_all(out, line.text.as_slice())
+}
 
 #[tactic(auto, unfolding(crate::specs::Trace::item_text))]
 fn line_of(item: &Item) -> Line
