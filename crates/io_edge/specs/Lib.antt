@@ -1,2 +1,5 @@
+pub mod Counter
+pub mod MemSink
+pub mod MemSource
 pub mod Sink
 pub mod Source

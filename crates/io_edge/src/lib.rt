@@ -1,11 +1,16 @@
 //! Texts come from sources and go to sinks, and either may fail.
 #![tactic(auto)]
 
+mod counter;
+mod mem_sink;
+mod mem_source;
 mod put;
 mod sink;
 mod source;
 mod take;
 
+pub use mem_sink::MemSink;
+pub use mem_source::MemSource;
 pub use put::put_all;
 pub use sink::Sink;
 pub use source::Source;
