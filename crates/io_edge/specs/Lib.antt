@@ -1,3 +1,4 @@
+pub mod AnySource
 pub mod Counter
 pub mod MemSink
 pub mod MemSource
