@@ -1,9 +1,10 @@
 -- How what a sink took is joined, for callers that write several pieces.
-use Rattle.std.proofs.Common.{◌≡◌, ℕ, ◌+◌, ◌<◌, ◌≤◌, List, [], ◌++◌, length, take, drop, Ok, Err, arith, refl, sym, subst, length-append}
+use Rattle.std.proofs.Common.{◌≡◌, ℕ, ◌+◌, ◌-◌, ◌<◌, ◌≤◌, ◌⊎◌, List, [], ◌∷◌, ◌++◌, length, take, drop, flat_map, Ok, Err, arith, inl, inr, refl, sym, ap, ◌∙◌, append_assoc, length-append}
 use Rattle.std.proofs.Math.Seq.{take-add, take-append-add}
 use Rattle.std.proofs.lemmas.List.{append-nil, take-append-le}
+use Rattle.std.proofs.lemmas.List.Concat.{flat_map-append}
 use Rattle.io_edge.specs.declared.Failed.{Failed}
-use Rattle.io_edge.specs.Sink.{Wrote, TookPart, Joins}
+use Rattle.io_edge.specs.Sink.{Wrote, TookPart, BrokeOff, Joins}
 
 -- the first bytes of a piece, and then the next ones
 pub took-more : {Self : Type 0} {took : Self → List ℕ → Self → Type 0} → Joins took → (done n : ℕ) (piece : List ℕ) (a b c : Self)
@@ -43,3 +44,100 @@ took_part-longer a c front text part = record {
   taken = let h : part.count ≤ length front = let k : part.count < length front = part.part in omega arith in
       rw (take-append-le part.count front text) part.taken;
 }
+
+-- items that were taken whole, and then a part of the next one's text
+pub broke_off-here : {Self Item : Type 0} {took : Self → List ℕ → Self → Type 0} {text : Item → List ℕ} → Joins took → (a b c : Self)
+    (whole : List Item) (next : Item) (rest : List Item) → took a (flat_map text whole) b → TookPart took b (text next) c
+    → BrokeOff took text a (whole ++ next ∷ rest) c
+broke_off-here {text = text} both a b c whole next rest first part = record {
+  whole = whole;
+  next = next;
+  rest = rest;
+  order = refl;
+  count = part.count;
+  part = part.part;
+  taken = both.join a b c (flat_map text whole) (take part.count (text next)) first part.taken
+}
+
+-- items that were taken whole, and then items at which the sink broke off
+pub broke_off-after : {Self Item : Type 0} {took : Self → List ℕ → Self → Type 0} {text : Item → List ℕ} → Joins took → (a b c : Self)
+    (front items : List Item) → took a (flat_map text front) b → BrokeOff took text b items c → BrokeOff took text a (front ++ items) c
+broke_off-after {text = text} both a b c front items first next = record {
+  whole = front ++ next.whole;
+  next = next.next;
+  rest = next.rest;
+  order = ap (λ xs. front ++ xs) next.order ∙ sym (append_assoc front next.whole (next.next ∷ next.rest));
+  count = next.count;
+  part = next.part;
+  taken = rw (flat_map-append text front next.whole, append_assoc)
+      (both.join a b c (flat_map text front) (flat_map text next.whole ++ take next.count (text next.next)) first next.taken)
+}
+
+-- a sink that broke off at some items did so at more of them
+pub broke_off-longer : {Self Item : Type 0} {took : Self → List ℕ → Self → Type 0} {text : Item → List ℕ} (a c : Self)
+    (items more : List Item) → BrokeOff took text a items c → BrokeOff took text a (items ++ more) c
+broke_off-longer a c items more broke = record {
+  whole = broke.whole;
+  next = broke.next;
+  rest = broke.rest ++ more;
+  order = ap (λ xs. xs ++ more) broke.order ∙ append_assoc broke.whole (broke.next ∷ broke.rest) more;
+  count = broke.count;
+  part = broke.part;
+  taken = broke.taken
+}
+
+-- where the first n bytes of the items' texts end
+record Place {Item : Type 0} (text : Item → List ℕ) (items : List Item) (n : ℕ) : Type 0 where
+  whole : List Item
+  next : Item
+  rest : List Item
+  order : items ≡ whole ++ next ∷ rest
+  count : ℕ
+  part : count < length (text next)
+  front : take n (flat_map text items) ≡ flat_map text whole ++ take count (text next)
+
+place_later : {Item : Type 0} (text : Item → List ℕ) (x : Item) (xs : List Item) (n : ℕ) → length (text x) ≤ n
+    → Place text xs (n - length (text x)) → Place text (x ∷ xs) n
+place_later text x xs n past later = record {
+  whole = x ∷ later.whole;
+  next = later.next;
+  rest = later.rest;
+  order = ap (λ ys. x ∷ ys) later.order;
+  count = later.count;
+  part = later.part;
+  front =
+      let e : n ≡ length (text x) + (n - length (text x)) = omega arith in
+      ap (λ k. take k (text x ++ flat_map text xs)) e ∙ (take-append-add (text x) (flat_map text xs) (n - length (text x))
+      ∙ (ap (λ ys. text x ++ ys) later.front ∙ sym (append_assoc (text x) (flat_map text later.whole) (take later.count (text later.next)))))
+}
+
+place : {Item : Type 0} (text : Item → List ℕ) (items : List Item) (n : ℕ) → n < length (flat_map text items) → Place text items n
+place text [] n within = absurd (omega arith)
+place text (x ∷ xs) n within =
+    let split : (n < length (text x)) ⊎ (length (text x) ≤ n) = grind arith in
+    elim split [
+      inl here ↦ record {
+        whole = [];
+        next = x;
+        rest = xs;
+        order = refl;
+        count = n;
+        part = here;
+        front = let h : n ≤ length (text x) = omega arith in take-append-le n (text x) (flat_map text xs) h
+      }
+    | inr past ↦ place_later text x xs n past (place text xs (n - length (text x)) (omega (arith, length-append (text x) (flat_map text xs))))
+    ]
+
+-- a part of the items' texts ends within one of them
+pub broke_off-part : {Self Item : Type 0} {took : Self → List ℕ → Self → Type 0} {text : Item → List ℕ} (a c : Self)
+    (items : List Item) → TookPart took a (flat_map text items) c → BrokeOff took text a items c
+broke_off-part {took = took} {text = text} a c items part =
+    let at = place text items part.count part.part in record {
+      whole = at.whole;
+      next = at.next;
+      rest = at.rest;
+      order = at.order;
+      count = at.count;
+      part = at.part;
+      taken = rw at.front at part.taken
+    }
