@@ -1,5 +1,5 @@
 -- The words of a request determine it, and it determines them.
-use Rattle.std.proofs.Common.{◌≡◌, ◌≢◌, ℕ, ◌+◌, ◌/◌, ◌%◌, ◌^◌, ◌<◌, ◌≤◌, List, [], ◌∷◌, ◌++◌, length, codes, decimal, refl, sym, ap, ◌∙◌, arith, append_assoc}
+use Rattle.std.proofs.Common.{◌≡◌, ◌≢◌, ℕ, ◌+◌, ◌/◌, ◌%◌, ◌^◌, ◌<◌, ◌≤◌, List, [], ◌∷◌, ◌++◌, length, Option, Some, None, codes, decimal, refl, sym, ap, ◌∙◌, arith, append_assoc}
 use Rattle.std.specs.Prelude.{All, slice_index}
 use Rattle.std.proofs.lemmas.Fmt.{decimal_by_steps, decimal_injective}
 use Rattle.std.proofs.lemmas.List.Elements.{All-nil, All-cons, All-append, All-get_or}
@@ -10,6 +10,7 @@ use Rattle.storage_model.specs.declared.plan.Fill.TheVariants.{Same, Ramp, Liste
 use Rattle.storage_model.specs.declared.plan.Job.{Job}
 use Rattle.storage_model.specs.declared.plan.Job.TheVariants.{Read, Write, Flush, Barrier, Status}
 use Rattle.script_text.specs.Words.{line, spaced, words_of, hex_byte}
+use Rattle.script_text.specs.Reads.{Reads}
 use Rattle.script_text.specs.Requests.{IsFill, IsRange, IsRequest, fill_words, job_words, job_text}
 use Rattle.script_text.proofs.Bytes.{hex_byte-injective}
 use Rattle.script_text.proofs.Lines.{IsFree, IsWord, first_part, free_words, line_free, word_from_test, words_of-spaced}
@@ -70,6 +71,12 @@ same_fill (Listed place) other valid sound same = absurd valid
 same_fill (Same byte) (Ramp start) valid sound same = absurd sound
 same_fill (Same byte) (Listed place) valid sound same = absurd sound
 
+-- the contents that a text can name, by their words
+pub named_fill : (fill : Fill) (words : List (List ℕ)) → IsFill fill → words ≡ fill_words fill → (byte : ℕ) × (byte < 256) × (words ≡ codes "fill" ∷ hex_byte byte ∷ [])
+named_fill (Same byte) words valid is = (byte, valid, is)
+named_fill (Ramp start) words valid is = absurd valid
+named_fill (Listed place) words valid is = absurd valid
+
 -- a request is determined by its words
 same_job : (job other : Job) → IsRequest job → IsRequest other → job_words job ≡ job_words other → job ≡ other
 same_job (Read sector blocks high) (Read from count first) valid sound same =
@@ -100,7 +107,7 @@ same_job (Write sector blocks fill forced reliable high) Status valid sound same
 -- what stands before the line feed of a request's text
 pub job_text-line : (job : Job) (after : List ℕ) → job_text job ++ after ≡ spaced (job_words job) ++ 10 ∷ after
 unfolding job_text
-job_text-line job after = append_assoc
+job_text-line job after = append_assoc (spaced (job_words job)) (codes "\n") after
 
 -- the first line of a text, if it is a request's
 pub request_line : (job : Job) (text after front rest : List ℕ) → IsRequest job → text ≡ front ++ 10 ∷ rest → IsFree 10 front → text ≡ job_text job ++ after
@@ -113,3 +120,18 @@ pub one_request : (job other : Job) (x y : List ℕ) → IsRequest job → IsReq
 one_request job other x y valid sound same =
     let parts = request_line other (job_text job ++ x) y (spaced (job_words job)) x sound (job_text-line job x) (line_free (job_words job) (job_words-plain job valid)) same in
     (same_job job other valid sound (sym (words_of-request job valid) ∙ words_from_line (spaced (job_words job)) other sound parts.0), parts.1)
+
+-- what is read of the words after the first is read of the line
+pub reads_line : (text first : List ℕ) (words : List (List ℕ)) (result : Option Job) → words_of text ≡ first ∷ words
+    → Reads result (λ job. IsRequest job × (first ∷ words ≡ job_words job)) → Reads result (λ job. IsRequest job × (text ≡ spaced (job_words job)))
+reads_line text first words None parts none = λ job p. none job (p.0, sym parts ∙ words_from_line text job p.0 p.1)
+reads_line text first words (Some job) parts some = (some.0, line_from_words text job (parts ∙ some.1))
+
+-- no request's first word is another
+pub reads_no_line : (text first : List ℕ) (words : List (List ℕ)) → words_of text ≡ first ∷ words → first ≢ codes "read" → first ≢ codes "write"
+    → (job : Job) → IsRequest job → text ≡ spaced (job_words job) → ⊥
+reads_no_line text first words parts read write (Read sector blocks high) valid is = read (let e = words_from_line text (Read sector blocks high) valid is in cc)
+reads_no_line text first words parts read write (Write sector blocks fill forced reliable high) valid is = write (let e = words_from_line text (Write sector blocks fill forced reliable high) valid is in cc)
+reads_no_line text first words parts read write Flush valid is = valid
+reads_no_line text first words parts read write Barrier valid is = valid
+reads_no_line text first words parts read write Status valid is = valid

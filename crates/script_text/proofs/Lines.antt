@@ -39,12 +39,11 @@ words_of-spaced word (next ∷ words) free =
 abbrev pub IsWord : List ℕ → Type 0
 IsWord word = All (λ b. 32 < b) word
 
-all_above : List ℕ → Bool
+abbrev pub all_above : List ℕ → Bool
 all_above [] = true
 all_above (b ∷ bytes) = nat_lt 32 b && all_above bytes
 
 pub word_from_test : (word : List ℕ) → all_above word ≡ true → IsWord word
-unfolding all_above
 word_from_test [] h = All-nil (λ b. 32 < b)
 word_from_test (b ∷ word) h =
     let parts = and_parts (nat_lt 32 b) (all_above word) h in
