@@ -52,8 +52,8 @@ job_words-plain Status valid = absurd valid
 
 -- the words between the spaces of a request's line are its words
 words_of-request : (job : Job) → IsRequest job → words_of (spaced (job_words job)) ≡ job_words job
-words_of-request (Read sector blocks high) valid = words_of-spaced _ _ (free_words _ (job_words-plain (Read sector blocks high) valid))
-words_of-request (Write sector blocks fill forced reliable high) valid = words_of-spaced _ _ (free_words _ (job_words-plain (Write sector blocks fill forced reliable high) valid))
+words_of-request (Read sector blocks high) valid = words_of-spaced _ _ (free_words (job_words (Read sector blocks high)) (job_words-plain (Read sector blocks high) valid))
+words_of-request (Write sector blocks fill forced reliable high) valid = words_of-spaced _ _ (free_words (job_words (Write sector blocks fill forced reliable high)) (job_words-plain (Write sector blocks fill forced reliable high) valid))
 words_of-request Flush valid = absurd valid
 words_of-request Barrier valid = absurd valid
 words_of-request Status valid = absurd valid
