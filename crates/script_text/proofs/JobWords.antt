@@ -1,8 +1,9 @@
 -- The words of a request determine it, and it determines them.
-use Rattle.std.proofs.Common.{◌≡◌, ◌≢◌, ℕ, ◌+◌, ◌/◌, ◌%◌, ◌^◌, ◌<◌, ◌≤◌, List, [], ◌∷◌, ◌++◌, length, Option, Some, None, codes, decimal, refl, sym, ap, ◌∙◌, arith, append_assoc}
+use Rattle.std.proofs.Common.{◌≡◌, ◌≢◌, ℕ, ◌+◌, ◌/◌, ◌%◌, ◌^◌, ◌<◌, ◌≤◌, List, [], ◌∷◌, ◌++◌, length, Option, Some, None, codes, decimal, refl, sym, ap, ◌∙◌, subst, arith, append_assoc}
 use Rattle.std.specs.Prelude.{All, slice_index}
 use Rattle.std.proofs.lemmas.Fmt.{decimal_by_steps, decimal_injective}
-use Rattle.std.proofs.lemmas.List.Elements.{All-nil, All-cons, All-append, All-get_or}
+use Rattle.std.proofs.lemmas.List.Elements.{All-nil, All-cons, All-head, All-tail, All-append, All-get_or}
+use Rattle.std.proofs.lemmas.List.{length-append}
 use Rattle.std.proofs.lemmas.List.Splits.{join_with_byte-slice_split}
 use Rattle.hex.specs.Hex.{encode_with, lower_digits}
 use Rattle.storage_model.specs.declared.plan.Fill.{Fill}
@@ -135,3 +136,25 @@ reads_no_line text first words parts read write (Write sector blocks fill forced
 reads_no_line text first words parts read write Flush valid is = valid
 reads_no_line text first words parts read write Barrier valid is = valid
 reads_no_line text first words parts read write Status valid is = valid
+
+-- a line is of one request
+pub same_line : (text : List ℕ) (job other : Job) → IsRequest job → IsRequest other → text ≡ spaced (job_words job) → text ≡ spaced (job_words other) → job ≡ other
+same_line text job other valid sound one two = same_job job other valid sound (sym (words_from_line text job valid one) ∙ words_from_line text other sound two)
+
+-- a request's text is its line and a line feed
+pub job_text-length : (job : Job) (text : List ℕ) → text ≡ spaced (job_words job) → length (job_text job) ≡ length text + 1
+unfolding job_text
+job_text-length job text is = ap length (ap (λ t. t ++ codes "\n") (sym is)) ∙ length-append text (codes "\n")
+
+pub request_parts : (job : Job) (text front after : List ℕ) → text ≡ front ++ 10 ∷ after → front ≡ spaced (job_words job) → text ≡ job_text job ++ after
+request_parts job text front after parts is = parts ∙ ap (λ t. t ++ 10 ∷ after) is ∙ sym (job_text-line job after)
+
+not_free : (mark : ℕ) (front rest : List ℕ) → IsFree mark (front ++ mark ∷ rest) → ⊥
+not_free mark [] rest free = All-head (λ b. b ≢ mark) mark rest free refl
+not_free mark (b ∷ front) rest free = not_free mark front rest (All-tail (λ b. b ≢ mark) b (front ++ mark ∷ rest) free)
+
+-- a text without a line feed begins with no request
+pub no_request : (job : Job) (text after : List ℕ) → IsFree 10 text → text ≡ job_text job ++ after → ⊥
+no_request job text after free is =
+    let P : List ℕ → Type 0 = λ t. IsFree 10 t in
+    not_free 10 (spaced (job_words job)) after (subst P (is ∙ job_text-line job after) free)

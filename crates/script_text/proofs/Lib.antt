@@ -1,3 +1,4 @@
 pub mod Bytes
 pub mod JobWords
 pub mod Lines
+pub mod Meanings
