@@ -157,3 +157,33 @@ bad_after bytes jobs rest tally text within counted more none =
         let added : tally_of (jobs ++ job ∷ []) ≡ with_request tally job (length (job_text job)) = (let push = tally_of-push jobs job in cc) in
         none job after (last_request jobs job wider) is (subst P added (within_counts (jobs ++ job ∷ []) wider));
     }
+
+shorter_front : (a b x y : List ℕ) → length a ≤ length x → x ++ y ≡ a ++ b → (after : List ℕ) × (x ≡ a ++ after)
+shorter_front [] b x y short same = (x, refl)
+shorter_front (c ∷ a) b [] y short same = absurd (omega arith)
+shorter_front (c ∷ a) b (d ∷ x) y short same =
+    let rest = shorter_front a b x y (omega arith) (cc) in
+    let tail = rest.1 in
+    let head : d ≡ c = cc in
+    (rest.0, cc)
+
+empty_front : (front more : List ℕ) → front ++ more ≡ [] → front ≡ []
+empty_front [] more e = refl
+empty_front (b ∷ front) more e = absurd (cc)
+
+-- a text that goes past the limit on bytes has the first bad line of its front, if that front does too
+pub bad_front : (front more : List ℕ) (line : ℕ) → 16777216 < length front → IsBadAt front line → IsBadAt (front ++ more) line
+bad_front front more line long bad =
+    let good = bad.0 in
+    let rest = bad.1 in
+    let text = bad.2.text in
+    (good, rest ++ more, record {
+      text = ap (λ t. t ++ more) text ∙ append_assoc (texts good) rest more;
+      within = bad.2.within;
+      more = λ e. bad.2.more (empty_front rest more e);
+      bad = λ job after is wider.
+        let short : length (job_text job) ≤ length rest =
+          omega (arith, wider.bytes, ap length (texts-push good job), length-append (texts good) (job_text job), ap length text, length-append (texts good) rest) in
+        let parts = shorter_front (job_text job) after rest more short is in
+        bad.2.bad job parts.0 parts.1 wider;
+    }, bad.3)

@@ -2,7 +2,7 @@ use Rattle.std.proofs.Common.{◌≡◌, ◌∙◌, ◌∷◌, sym, ap, codes, a
 use Rattle.script_text.specs.Words.{words_of}
 use Rattle.script_text.proofs.JobWords.{reads_line}
 use Rattle.std.proofs.lemmas.Slice.Eq.{text_from_reads}
-use Rattle.script_text.proofs.requests.read_job.Goals as goal
+use Rattle.script_text.proofs.job.read_job.Goals as goal
 
 pub returns-in-read : goal.returns-in-read
 returns-in-read c =

@@ -1,7 +1,7 @@
 use Rattle.std.proofs.Common.{◌≡◌, ◌∷◌, [], codes}
 use Rattle.script_text.specs.Words.{hex_byte}
 use Rattle.script_text.proofs.JobWords.{named_fill}
-use Rattle.script_text.proofs.requests.fill_of.Goals as goal
+use Rattle.script_text.proofs.job.fill_of.Goals as goal
 
 pub returns-in_err-byte : goal.returns-in_err-byte
 returns-in_err-byte c =
