@@ -3,6 +3,7 @@
 #![tactic(auto)]
 
 mod faults;
+mod job;
 mod numbers;
 mod requests;
 mod words;

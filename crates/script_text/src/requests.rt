@@ -1,16 +1,15 @@
 // Request texts.
-ghost use Rattle.std.specs.Prelude.{◌≡◌, ◌++◌, ◌+◌, ◌∷◌, ℕ, List, length, codes, IfOk, IfErr, IfNone, IfSome, MatchOption};
+ghost use Rattle.std.specs.Prelude.{◌≡◌, ◌++◌, ℕ, List, length, IfOk, IfErr, IfNone, IfSome};
 ghost use Rattle.storage_model.specs.Plan.{IsValidPlan, blocks_of};
 ghost use Rattle.storage_model.specs.declared.plan.Job.{Job};
 ghost use Rattle.script_text.specs.Reads.{Reads};
-ghost use Rattle.script_text.specs.Requests.{Means, Refused, HasDefaults, IsFill, IsRequest, fill_words, job_text, job_words};
+ghost use Rattle.script_text.specs.Requests.{Means, Refused, HasDefaults, IsRequest, job_text};
 ghost use Rattle.script_text.specs.Tally.{IsWithin, with_request};
-ghost use Rattle.script_text.specs.Words.{spaced};
 
-use crate::numbers::{read_decimal, read_decimal_in, read_hex_byte};
-use crate::words::{Words, split_once};
+use crate::job::read_job;
+use crate::words::split_once;
 use std::alloc::Global;
-use storage_model::{BlockList, Fill, Job, JobList, Plan, TextEnd};
+use storage_model::{BlockList, Job, JobList, Plan, TextEnd};
 
 const MAX_REQUESTS: u32 = 65_536;
 const MAX_BLOCKS: u32 = 131_072;
@@ -101,65 +100,5 @@ fn blocks_moved(job: &Job) -> u16
     match job {
         Job::Read { blocks, .. } | Job::Write { blocks, .. } => *blocks,
         Job::Flush | Job::Barrier | Job::Status => 0,
-    }
-}
-
-// The request of a line, given without its line feed.
-fn read_job(line: &[u8]) -> Option<Job>
-    ensures { Reads result (λ job. IsRequest job × (line.now ≡ spaced (job_words job))) }
-{
-    let mut words = Words::of(line);
-    match words.next()? {
-        b"read" => read_of(words),
-        b"write" => write_of(words),
-        _ => None,
-    }
-}
-
-// `S N`, what follows `read`.
-fn read_of(mut words: Words) -> Option<Job>
-    ensures { Reads result (λ job. IsRequest job × (codes "read" ∷ words.entry ≡ job_words job)) }
-{
-    let sector = read_decimal(words.next()?)?;
-    let blocks = read_decimal_in(words.next()?, 1, 1024)?;
-    match words.next() {
-        Some(_) => None,
-        None => Some(Job::Read {
-            sector,
-            blocks,
-            high: false,
-        }),
-    }
-}
-
-// `S N fill HH`, what follows `write`.
-fn write_of(mut words: Words) -> Option<Job>
-    ensures { Reads result (λ job. IsRequest job × (codes "write" ∷ words.entry ≡ job_words job)) }
-{
-    let sector = read_decimal(words.next()?)?;
-    let blocks = read_decimal_in(words.next()?, 1, 1024)?;
-    let fill = fill_of(words)?;
-    Some(Job::Write {
-        sector,
-        blocks,
-        fill,
-        forced: false,
-        reliable: false,
-        high: false,
-    })
-}
-
-// `fill HH`, a write's contents.
-fn fill_of(mut words: Words) -> Option<Fill>
-    ensures { Reads result (λ fill. IsFill fill × (words.entry ≡ fill_words fill)) }
-{
-    match words.next()? {
-        b"fill" => {}
-        _ => return None,
-    }
-    let byte = read_hex_byte(words.next()?)?;
-    match words.next() {
-        Some(_) => None,
-        None => Some(Fill::Same(byte)),
     }
 }
