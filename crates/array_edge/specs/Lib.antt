@@ -1,1 +1,3 @@
 pub mod Array
+pub mod Hits
+pub mod Memory

@@ -2,5 +2,11 @@
 #![tactic(auto)]
 
 mod array;
+mod hits;
+mod mem_array;
 
 pub use array::{Array, ArrayEnd};
+pub use mem_array::MemArray;
+
+#[cfg(test)]
+mod tests;
