@@ -39,6 +39,8 @@ pub record IsTorn (old : Option (List Block)) (page : ℕ) (block : Block) (new 
 pub record Ends (old new : ArrayState) (result : Result (Unit {0}) ArrayEnd) : Type 0 where
   pub faults : Later old.faults new.faults
   pub cuts : Later old.cuts new.cuts
+  pub programs : Later old.programs new.programs
+  pub fetches : Later old.fetches new.fetches
   pub ok : OnOk result (new.powered ≡ old.powered)
   pub failed : IsErrOf result Failed → Rose old.faults new.faults × (new.powered ≡ old.powered)
   pub lost : IsErrOf result PowerLost → (Rose old.cuts new.cuts ⊎ (old.powered ≡ false)) × (new.powered ≡ false)

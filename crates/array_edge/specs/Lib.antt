@@ -1,1 +1,4 @@
 pub mod Array
+pub mod FilePages
+pub mod Hits
+pub mod Memory

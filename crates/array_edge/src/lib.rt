@@ -2,5 +2,13 @@
 #![tactic(auto)]
 
 mod array;
+mod file_array;
+mod hits;
+mod mem_array;
 
 pub use array::{Array, ArrayEnd};
+pub use file_array::FileArray;
+pub use mem_array::MemArray;
+
+#[cfg(test)]
+mod tests;

@@ -1,0 +1,2 @@
+pub mod GranuleWrites
+pub mod Torn
