@@ -1,2 +1,4 @@
+pub mod Printing
+pub mod Serving
 pub mod Showing
 pub mod Writing

@@ -43,9 +43,11 @@ module _ (blocks : List Block) (fill : Fill) (first : ℕ) where
     where
       next_is : next_fill blocks first fill all count ≡ Some (first + count, block)
       next_is = let below : nat_lt count all ≡ true = grind (arith, nat_tests) in rw (below, is)
+
       near : (base : List Block) (now : Option (List Block)) (left : Block) → IsMix (page_at (put_blocks base first (fill_blocks blocks fill count)) (first + count)) block left
           → now ≡ Some (set (put_blocks base first (fill_blocks blocks fill count)) (first + count) left) → IsSomeAnd now (IsNearBase (put_blocks base first (fill_blocks blocks fill count)) (next_fill blocks first fill all count))
       near base now left mix told = rw (told, next_is) (inr (record { left = left; mix = mix; others = refl }))
+
       go : (was then now : Option (List Block)) → then ≡ option_map (λ base. put_blocks base first (fill_blocks blocks fill count)) was → IsTorn then (first + count) block now
           → IfSome was (λ base. IsSomeAnd now (IsNearBase (put_blocks base first (fill_blocks blocks fill count)) (next_fill blocks first fill all count)))
       go None then now w t = tt

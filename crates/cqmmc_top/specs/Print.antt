@@ -1,6 +1,7 @@
 -- What was printed while requests were served, and how that ended.
-use Rattle.std.specs.Prelude.{◌≡◌, ℕ, ◌<◌, List, ◌++◌, length, take, Option, Result, Ok, Err, IsErrOf, IfSome}
+use Rattle.std.specs.Prelude.{◌≡◌, ◌⊎◌, IfErr, ℕ, ◌<◌, List, ◌++◌, length, take, Option, Result, Ok, Err, IsErrOf, IfSome}
 use Rattle.std.specs.Option.{IsSomeAnd}
+use Rattle.std.specs.Result.{IsErrAnd}
 use Rattle.storage_model.specs.Count.{Count, Later, Rose}
 use Rattle.storage_model.specs.declared.block.Block.{Block}
 use Rattle.storage_model.specs.declared.ends.Halt.{Halt}
@@ -8,6 +9,9 @@ use Rattle.storage_model.specs.declared.ends.Halt.TheVariants.{SinkFailed, OpenF
 use Rattle.storage_model.specs.declared.trace.End.{End}
 use Rattle.storage_model.specs.declared.trace.End.TheVariants.{Good, Fault, Dead, Image}
 use Rattle.storage_model.specs.declared.trace.Item.{Item}
+use Rattle.storage_model.specs.declared.trace.Item.TheVariants.{Off}
+use Rattle.array_edge.specs.declared.array.ArrayEnd.{ArrayEnd}
+use Rattle.array_edge.specs.declared.array.ArrayEnd.TheVariants.{Failed, PowerLost}
 use Rattle.array_edge.specs.Array.{ArrayState}
 use Rattle.io_edge.specs.Sink.{TookPart}
 use Rattle.trace_text.specs.Trace.{item_text, items_text}
@@ -57,6 +61,32 @@ module _ {K : Type 0} (took : K → List ℕ → K → Type 0) (blocks : List Bl
   Served old s (Err OpenFault) shown new t = Stops old s new Fault shown
   Served old s (Err PowerGone) shown new t = Stops old s new Dead shown
   Served old s (Err BadImage) shown new t = ⊥
+
+-- the `off` line of a failure of the array was taken, or the sink failed within it
+abbrev pub off_end : ArrayEnd → End
+off_end Failed = Fault
+off_end PowerLost = Dead
+
+abbrev pub EndsLine : {K : Type 0} → (K → List ℕ → K → Type 0) → K → ArrayEnd → Result (Unit {0}) Halt → K → Type 0
+EndsLine took old why (Ok done) new = ⊥
+EndsLine took old why (Err SinkFailed) new = TookPart took old (item_text (Off (off_end why))) new
+EndsLine took old why (Err OpenFault) new = took old (item_text (Off Fault)) new × (why ≡ Failed)
+EndsLine took old why (Err PowerGone) new = took old (item_text (Off Dead)) new × (why ≡ PowerLost)
+EndsLine took old why (Err BadImage) new = ⊥
+
+-- the sink's count doesn't fall, and only a rise of it is a failure
+pub record IsSinkCause (old new : Count) (result : Result (Unit {0}) Halt) : Type 0 where
+  pub later : Later old new
+  pub cause : IfErr result (λ halt. (halt ≡ SinkFailed) × Rose old new)
+
+-- the run ends as the array did, or the sink failed
+abbrev pub IsHaltOf : ArrayEnd → Halt → Type 0
+IsHaltOf Failed halt = halt ≡ OpenFault
+IsHaltOf PowerLost halt = halt ≡ PowerGone
+
+pub record IsHalt (why : ArrayEnd) (old new : Count) (result : Result (Unit {0}) Halt) : Type 0 where
+  pub later : Later old new
+  pub cause : IsErrAnd result (λ halt. IsHaltOf why halt ⊎ ((halt ≡ SinkFailed) × Rose old new))
 
 -- counts don't fall, and each end comes only where its count rose
 pub record HasCause (sink_old sink_new : Count) (old new : ArrayState) (result : Result (Unit {0}) Halt) : Type 0 where

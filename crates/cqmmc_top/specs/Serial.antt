@@ -4,7 +4,7 @@ use Rattle.std.specs.Prelude.{◌≡◌, ◌≢◌, ◌⊎◌, ℕ, ◌+◌, ◌
 use Rattle.std.specs.List.{range_with_len}
 use Rattle.std.specs.Option.{IsSomeAnd}
 use Rattle.storage_model.specs.Granule.{IsMix}
-use Rattle.storage_model.specs.Plan.{block_at}
+use Rattle.storage_model.specs.Plan.{block_at, blocks_of}
 use Rattle.array_edge.specs.Array.{page_at}
 use Rattle.storage_model.specs.declared.block.Block.{Block}
 use Rattle.storage_model.specs.declared.plan.Fill.{Fill}
@@ -80,8 +80,8 @@ IsBroken _ count kept = ⊥
 abbrev pub Moves : List Block → Serial → List Job → ℕ → Bool → Serial → Type 0
 Moves blocks s [] count kept t = ⊥
 Moves blocks s (job ∷ jobs) count kept t =
-  (IsWhole job count kept × (t ≡ record s { base = moved blocks s.base job count; due = ToAnswer }))
-  ⊎ (IsBroken job count kept × (t ≡ record s { base = moved blocks s.base job count; torn = next_put blocks job count; due = ToEnd }))
+    (IsWhole job count kept × (t ≡ record s { base = moved blocks s.base job count; due = ToAnswer }))
+    ⊎ (IsBroken job count kept × (t ≡ record s { base = moved blocks s.base job count; torn = next_put blocks job count; due = ToEnd }))
 
 -- the sectors that are still to be shown, or the request is answered
 abbrev pub showing : Serial → List Block → Serial
@@ -125,6 +125,27 @@ Line blocks s _ t = ⊥
 pub data Lines (blocks : List Block) : Serial → List Item → Serial → Type 0 where
   none : {s : Serial} → Lines blocks s [] s
   more : {s m t : Serial} {item : Item} {items : List Item} → Line blocks s item m → Lines blocks m items t → Lines blocks s (item ∷ items) t
+
+-- a request may come, or must move its blocks
+abbrev pub issuing : List Block → ℕ → List Job → Serial
+issuing base id left = record { base = base; torn = None; id = id; left = left; due = ToIssue }
+
+abbrev pub moving : List Block → ℕ → List Job → Serial
+moving base id left = record { base = base; torn = None; id = id; left = left; due = ToMove }
+
+-- what the image shows after requests that were served whole
+abbrev pub after_job : List Block → List Block → Job → List Block
+after_job blocks base job = moved blocks base job (blocks_of job)
+
+abbrev pub after_jobs : List Block → List Block → List Job → List Block
+after_jobs blocks base [] = base
+after_jobs blocks base (job ∷ jobs) = after_jobs blocks (after_job blocks base job) jobs
+
+-- a read or a write, whose sectors are among so many
+abbrev pub IsPlain : ℕ → Job → Type 0
+IsPlain sectors (ReadJob first all high) = first + all ≤ sectors
+IsPlain sectors (WriteJob first all fill forced reliable high) = first + all ≤ sectors
+IsPlain sectors _ = ⊥
 
 -- before the first line
 abbrev pub start : List Block → List Job → Serial

@@ -4,3 +4,4 @@
 mod image;
 mod moves;
 mod print;
+mod serve;

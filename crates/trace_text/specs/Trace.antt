@@ -1,5 +1,5 @@
 -- The one text of each line of a trace: words parted by single spaces, and a line feed.
-use Rattle.std.specs.Prelude.{◌==◌, ℕ, Bool, true, false, if◌then◌else◌, List, [], ◌∷◌, ◌++◌, Option, Some, None, slice_index, codes, decimal}
+use Rattle.std.specs.Prelude.{◌==◌, ℕ, Bool, true, false, if◌then◌else◌, List, [], ◌∷◌, ◌++◌, Option, Some, None, slice_index, flat_map, codes, decimal}
 use Rattle.std.specs.List.{list_all}
 use Rattle.hex.specs.Hex.{encode_lower}
 use Rattle.std.specs.Int.{w32, to_be_bytes}
@@ -97,5 +97,4 @@ item_text item = item_words item ++ 10 ∷ []
 
 -- the lines one after the other
 abbrev pub items_text : List Item → List ℕ
-items_text [] = []
-items_text (item ∷ items) = item_text item ++ items_text items
+items_text items = flat_map item_text items
