@@ -4,7 +4,7 @@ use Rattle.std.specs.Prelude.{◌≡◌, ◌≢◌, ◌⊎◌, ℕ, ◌+◌, ◌
 use Rattle.std.specs.List.{range_with_len}
 use Rattle.std.specs.Option.{IsSomeAnd}
 use Rattle.storage_model.specs.Granule.{IsMix}
-use Rattle.storage_model.specs.Plan.{block_at, blocks_of}
+use Rattle.storage_model.specs.Plan.{block_at, blocks_of, IsValidJob}
 use Rattle.array_edge.specs.Array.{page_at}
 use Rattle.storage_model.specs.declared.block.Block.{Block}
 use Rattle.storage_model.specs.declared.plan.Fill.{Fill}
@@ -146,6 +146,16 @@ abbrev pub IsPlain : ℕ → Job → Type 0
 IsPlain sectors (ReadJob first all high) = first + all ≤ sectors
 IsPlain sectors (WriteJob first all fill forced reliable high) = first + all ≤ sectors
 IsPlain sectors _ = ⊥
+
+-- a request with a range among the sectors, valid numbers, and not more sectors than fit in a buffer
+pub record IsServable (blocks : List Block) (sectors room : ℕ) (job : Job) : Type 0 where
+  pub plain : IsPlain sectors job
+  pub valid : IsValidJob blocks job
+  pub fits : blocks_of job ≤ room
+
+-- all requests are served, and the last line says so
+abbrev pub ended : List Block → ℕ → Serial
+ended base id = record (issuing base id []) { due = Over Good }
 
 -- before the first line
 abbrev pub start : List Block → List Job → Serial

@@ -4,4 +4,5 @@
 mod image;
 mod moves;
 mod print;
+mod run;
 mod serve;
