@@ -1,7 +1,7 @@
 -- How what a sink took is joined, for callers that write several pieces.
-use Rattle.std.proofs.Common.{◌≡◌, ℕ, ◌+◌, ◌-◌, ◌<◌, ◌≤◌, ◌⊎◌, List, [], ◌∷◌, ◌++◌, length, take, drop, flat_map, Ok, arith, inl, inr, refl, sym, ap, ◌∙◌, append_assoc, length-append}
+use Rattle.std.proofs.Common.{◌≡◌, ℕ, ◌+◌, ◌-◌, ◌<◌, ◌≤◌, ◌⊎◌, List, [], ◌∷◌, ◌++◌, length, get_or, take, drop, flat_map, suc, Ok, arith, inl, inr, refl, sym, ap, ◌∙◌, append_assoc, length-append, drop-cons}
 use Rattle.std.proofs.Math.Seq.{take-add, take-append-add}
-use Rattle.std.proofs.lemmas.List.{append-nil, take-append-le}
+use Rattle.std.proofs.lemmas.List.{append-nil, take-append-drop, take-append-le}
 use Rattle.std.proofs.lemmas.List.Concat.{flat_map-append}
 use Rattle.io_edge.specs.Sink.{Wrote, TookPart, BrokeOff, Joins}
 
@@ -56,6 +56,20 @@ broke_off-here {text = text} both a b c whole next rest first part = record {
   count = part.count;
   part = part.part;
   taken = both.join a b c (flat_map text whole) (take part.count (text next)) first part.taken;
+}
+
+-- the same in a loop over the items, at item i
+pub broke_off-at : {Self Item : Type 0} {took : Self → List ℕ → Self → Type 0} {text : Item → List ℕ} → Joins took → (a b c : Self)
+    (items : List Item) (i : ℕ) (item : Item) → i < length items → took a (flat_map text (take i items)) b
+    → TookPart took b (text (get_or items i item)) c → BrokeOff took text a items c
+broke_off-at {text = text} both a b c items i item within first part = record {
+  whole = take i items;
+  next = get_or items i item;
+  rest = drop (suc i) items;
+  order = sym (take-append-drop i items) ∙ ap (λ xs. take i items ++ xs) (drop-cons items i item within);
+  count = part.count;
+  part = part.part;
+  taken = both.join a b c (flat_map text (take i items)) (take part.count (text (get_or items i item))) first part.taken;
 }
 
 -- items that were taken whole, and then items at which the sink broke off
