@@ -1,5 +1,5 @@
 -- A sink in memory doesn't fail where no call is to fail and there is room.
-use Rattle.std.proofs.Common.{◌≡◌, ℕ, ◌+◌, ◌-◌, ◌^◌, ◌<◌, ◌≤◌, List, [], ◌++◌, length, take, arith, ap, ◌∙◌, length-append, length-take}
+use Rattle.std.proofs.Common.{◌≡◌, ℕ, ◌+◌, ◌-◌, ◌^◌, ◌<◌, ◌≤◌, List, [], length, take, arith, ap, ◌∙◌, length-append, length-take}
 use Rattle.std.proofs.lemmas.Bool.Decides.{nat_tests}
 use Rattle.storage_model.specs.Count.{Rose}
 use Rattle.io_edge.specs.Counter.{counted}

@@ -1,9 +1,8 @@
 -- How what a sink took is joined, for callers that write several pieces.
-use Rattle.std.proofs.Common.{◌≡◌, ℕ, ◌+◌, ◌-◌, ◌<◌, ◌≤◌, ◌⊎◌, List, [], ◌∷◌, ◌++◌, length, take, drop, flat_map, Ok, Err, arith, inl, inr, refl, sym, ap, ◌∙◌, append_assoc, length-append}
+use Rattle.std.proofs.Common.{◌≡◌, ℕ, ◌+◌, ◌-◌, ◌<◌, ◌≤◌, ◌⊎◌, List, [], ◌∷◌, ◌++◌, length, get_or, take, drop, flat_map, suc, Ok, arith, inl, inr, refl, sym, ap, ◌∙◌, append_assoc, length-append, drop-cons}
 use Rattle.std.proofs.Math.Seq.{take-add, take-append-add}
-use Rattle.std.proofs.lemmas.List.{append-nil, take-append-le}
+use Rattle.std.proofs.lemmas.List.{append-nil, take-append-drop, take-append-le}
 use Rattle.std.proofs.lemmas.List.Concat.{flat_map-append}
-use Rattle.io_edge.specs.declared.Failed.{Failed}
 use Rattle.io_edge.specs.Sink.{Wrote, TookPart, BrokeOff, Joins}
 
 -- the first bytes of a piece, and then the next ones
@@ -56,7 +55,21 @@ broke_off-here {text = text} both a b c whole next rest first part = record {
   order = refl;
   count = part.count;
   part = part.part;
-  taken = both.join a b c (flat_map text whole) (take part.count (text next)) first part.taken
+  taken = both.join a b c (flat_map text whole) (take part.count (text next)) first part.taken;
+}
+
+-- the same in a loop over the items, at item i
+pub broke_off-at : {Self Item : Type 0} {took : Self → List ℕ → Self → Type 0} {text : Item → List ℕ} → Joins took → (a b c : Self)
+    (items : List Item) (i : ℕ) (item : Item) → i < length items → took a (flat_map text (take i items)) b
+    → TookPart took b (text (get_or items i item)) c → BrokeOff took text a items c
+broke_off-at {text = text} both a b c items i item within first part = record {
+  whole = take i items;
+  next = get_or items i item;
+  rest = drop (suc i) items;
+  order = sym (take-append-drop i items) ∙ ap (λ xs. take i items ++ xs) (drop-cons items i item within);
+  count = part.count;
+  part = part.part;
+  taken = both.join a b c (flat_map text (take i items)) (take part.count (text (get_or items i item))) first part.taken;
 }
 
 -- items that were taken whole, and then items at which the sink broke off
@@ -70,7 +83,7 @@ broke_off-after {text = text} both a b c front items first next = record {
   count = next.count;
   part = next.part;
   taken = rw (flat_map-append text front next.whole, append_assoc)
-      (both.join a b c (flat_map text front) (flat_map text next.whole ++ take next.count (text next.next)) first next.taken)
+      (both.join a b c (flat_map text front) (flat_map text next.whole ++ take next.count (text next.next)) first next.taken);
 }
 
 -- a sink that broke off at some items did so at more of them
@@ -83,7 +96,7 @@ broke_off-longer a c items more broke = record {
   order = ap (λ xs. xs ++ more) broke.order ∙ append_assoc broke.whole (broke.next ∷ broke.rest) more;
   count = broke.count;
   part = broke.part;
-  taken = broke.taken
+  taken = broke.taken;
 }
 
 -- where the first n bytes of the items' texts end
@@ -108,7 +121,7 @@ place_later text x xs n past later = record {
   front =
       let e : n ≡ length (text x) + (n - length (text x)) = omega arith in
       ap (λ k. take k (text x ++ flat_map text xs)) e ∙ (take-append-add (text x) (flat_map text xs) (n - length (text x))
-      ∙ (ap (λ ys. text x ++ ys) later.front ∙ sym (append_assoc (text x) (flat_map text later.whole) (take later.count (text later.next)))))
+      ∙ (ap (λ ys. text x ++ ys) later.front ∙ sym (append_assoc (text x) (flat_map text later.whole) (take later.count (text later.next)))));
 }
 
 place : {Item : Type 0} (text : Item → List ℕ) (items : List Item) (n : ℕ) → n < length (flat_map text items) → Place text items n
@@ -116,16 +129,16 @@ place text [] n within = absurd (omega arith)
 place text (x ∷ xs) n within =
     let split : (n < length (text x)) ⊎ (length (text x) ≤ n) = grind arith in
     elim split [
-      inl here ↦ record {
+      | inl here ↦ record {
         whole = [];
         next = x;
         rest = xs;
         order = refl;
         count = n;
         part = here;
-        front = let h : n ≤ length (text x) = omega arith in take-append-le n (text x) (flat_map text xs) h
+        front = let h : n ≤ length (text x) = omega arith in take-append-le n (text x) (flat_map text xs) h;
       }
-    | inr past ↦ place_later text x xs n past (place text xs (n - length (text x)) (omega (arith, length-append (text x) (flat_map text xs))))
+      | inr past ↦ place_later text x xs n past (place text xs (n - length (text x)) (omega (arith, length-append (text x) (flat_map text xs))))
     ]
 
 -- a part of the items' texts ends within one of them
@@ -139,5 +152,5 @@ broke_off-part {took = took} {text = text} a c items part =
       order = at.order;
       count = at.count;
       part = at.part;
-      taken = rw at.front at part.taken
+      taken = rw at.front at part.taken;
     }

@@ -16,3 +16,8 @@ abbrev pub any_faults : {R : Type 0} → AnySource R → Count
 any_faults (Empty source) = counted 0
 any_faults (No faults) = counted faults
 any_faults (Std faults) = counted faults
+
+-- the one whose every call fails
+abbrev pub IsUnopened : {R : Type 0} → AnySource R → Type 0
+IsUnopened (No faults) = Unit {0}
+IsUnopened source = ⊥

@@ -2,7 +2,7 @@ ghost use Rattle.std.specs.Prelude.{◌≡◌, IsErr, List, [], None, Some, leng
 ghost use Rattle.storage_model.specs.Count.{Later, RaisedByOne, Rose};
 ghost use Rattle.io_edge.specs.Counter.{counted};
 ghost use Rattle.io_edge.specs.Source.{Fills};
-ghost use Rattle.io_edge.specs.AnySource.{any_left, any_faults};
+ghost use Rattle.io_edge.specs.AnySource.{any_left, any_faults, IsUnopened};
 
 use crate::counter::fail;
 use crate::{Failed, Source, StdSource};
@@ -14,6 +14,7 @@ use std::marker::Model;
 pub struct EmptySource;
 
 impl EmptySource {
+    /// There is only one.
     pub fn new() -> Self {
         EmptySource
     }
@@ -27,8 +28,6 @@ impl Source for EmptySource {
     fn fill(&mut self, buf: &mut [u8]) -> Result<usize, Failed>
         ensures end { result ≡ Ok 0 }
         ensures kept { buf.new ≡ buf.old }
-        ensures moved { Fills (Some []) buf.new result (Some []) }
-        ensures faults { Later (counted 0) (counted 0) }
     {
         let _ = buf;
         Ok(0)
@@ -50,6 +49,7 @@ impl Model for NoSource {
 }
 
 impl NoSource {
+    /// It has not failed yet.
     pub fn new() -> Self
         ensures { result ≡ 0 }
     {
@@ -88,7 +88,13 @@ impl<R: Read> Source for AnySource<R> {
 
     ghost faults = { any_faults };
 
-    fn fill(&mut self, buf: &mut [u8]) -> Result<usize, Failed> {
+    fn fill(&mut self, buf: &mut [u8]) -> Result<usize, Failed>
+        ensures within { IfOk result (λ n. n ≤ length buf.old) }
+        ensures moved { Fills (any_left self.old) buf.new result (any_left self.new) }
+        ensures faults { Later (any_faults self.old) (any_faults self.new) }
+        ensures failed { OnErr result (Rose (any_faults self.old) (any_faults self.new)) }
+        ensures unopened { IsUnopened self.old → IsErr result × IsUnopened self.new }
+    {
         match self {
             AnySource::Empty(source) => source.fill(buf),
             AnySource::No(source) => source.fill(buf),

