@@ -190,3 +190,7 @@ bad_front front more line long bad =
       },
       bad.3,
     )
+
+-- a text that means requests has not more than 16 MiB
+pub meaning_fits : (bytes : List ℕ) (jobs : List Job) → Means bytes jobs → length bytes ≤ 16777216
+meaning_fits bytes jobs means = omega (arith, ap length means.text, means.within.bytes)
