@@ -1,5 +1,5 @@
 -- A fault text has one meaning or one first bad line.
-use Rattle.std.proofs.Common.{◌≡◌, ℕ, List, [], ap, sym, ◌∙◌}
+use Rattle.std.proofs.Common.{◌≡◌, ℕ, List, [], ◌∷◌, ◌++◌, refl, ap, sym, ◌∙◌}
 use Rattle.storage_model.specs.declared.faults.Faults.{Faults}
 use Rattle.script_text.specs.Faults.{FaultsMean, FaultsBadAt}
 
@@ -24,3 +24,8 @@ no_bad_line bytes faults line means bad = bad.0 means.text
 
 pub one_bad_line : (bytes : List ℕ) (line other : ℕ) → FaultsBadAt bytes line → FaultsBadAt bytes other → line ≡ other
 one_bad_line bytes line other bad also = bad.1 ∙ sym also.1
+
+-- what is bad of the front of a text is bad of the text
+pub bad_front : (front more : List ℕ) (line : ℕ) → FaultsBadAt front line → FaultsBadAt (front ++ more) line
+bad_front [] more line bad = absurd (bad.0 refl)
+bad_front (b ∷ front) more line bad = (λ e. cc, bad.1)

@@ -1,6 +1,6 @@
 -- A text of requests has one meaning or one first bad line.
-use Rattle.std.proofs.Common.{◌≡◌, ◌≢◌, ◌⊎◌, inl, inr, ℕ, suc, ◌+◌, ◌<◌, ◌≤◌, List, [], ◌∷◌, ◌++◌, length, codes, refl, sym, ap, ◌∙◌, subst, arith, append_assoc}
-use Rattle.std.specs.Prelude.{All, flat_map, sum_by}
+use Rattle.std.proofs.Common.{◌≡◌, ◌≢◌, ◌⊎◌, inl, inr, ℕ, ◌+◌, ◌<◌, ◌≤◌, List, [], ◌∷◌, ◌++◌, length, refl, sym, ap, ◌∙◌, subst, arith, append_assoc}
+use Rattle.std.specs.Prelude.{All, sum_by}
 use Rattle.std.proofs.lemmas.Grind.{flat_map-append}
 use Rattle.std.proofs.lemmas.List.{append-nil, length-append}
 use Rattle.std.proofs.lemmas.List.Elements.{All-nil, All-cons, All-head, All-tail, All-append}
@@ -10,8 +10,7 @@ use Rattle.storage_model.specs.Plan.{blocks_of}
 use Rattle.script_text.specs.Requests.{AreWithin, IsBadAfter, IsBadAt, IsRequest, Means, job_text, texts}
 use Rattle.script_text.specs.declared.requests.Tally.{Tally}
 use Rattle.script_text.specs.Tally.{IsWithin, with_request}
-use Rattle.script_text.specs.Words.{spaced}
-use Rattle.script_text.proofs.JobWords.{job_text-line, one_request}
+use Rattle.script_text.proofs.JobWords.{one_request}
 
 -- a request's text isn't empty
 pub job_text-long : (job : Job) → 0 < length (job_text job)
@@ -55,7 +54,7 @@ overlap [] others x y all each same = inl (record { more = others; list = refl; 
 overlap (job ∷ jobs) [] x y all each same = inr (record { more = job ∷ jobs; list = refl; rest = sym same })
 overlap (job ∷ jobs) (other ∷ others) x y all each same =
     let parts = one_request job other (texts jobs ++ x) (texts others ++ y) (All-head IsRequest job jobs all) (All-head IsRequest other others each)
-        (sym (append_assoc (job_text job) (texts jobs) x) ∙ same ∙ append_assoc (job_text other) (texts others) y) in
+    (sym (append_assoc (job_text job) (texts jobs) x) ∙ same ∙ append_assoc (job_text other) (texts others) y) in
     elim (overlap jobs others x y (All-tail IsRequest job jobs all) (All-tail IsRequest other others each) parts.1) [
       | inl goes ↦ inl (goes_on job other jobs others x y parts.0 goes)
       | inr goes ↦ inr (goes_on other job others jobs y x (sym parts.0) goes)
@@ -96,7 +95,7 @@ no_bad_line bytes jobs line means bad =
           let P : List Job → Type 0 = λ all. AreWithin all in
           let none = none_at_bad bytes good rest goes.more [] bad.2 goes.rest (subst P goes.list means.within) in
           bad.2.more (goes.rest ∙ ap (λ more. texts more ++ []) none)
-        )
+          )
     ]
 
 same_length : (good others : List Job) (more : List Job) → others ≡ good ++ more → more ≡ [] → length good + 1 ≡ length others + 1
@@ -110,11 +109,11 @@ one_bad_line bytes line other bad also =
       | inl goes ↦ (
           let none = none_at_bad bytes bad.0 bad.1 goes.more also.1 bad.2 goes.rest (subst P goes.list also.2.within) in
           bad.3 ∙ same_length bad.0 also.0 goes.more goes.list none ∙ sym also.3
-        )
+          )
       | inr goes ↦ (
           let none = none_at_bad bytes also.0 also.1 goes.more bad.1 also.2 goes.rest (subst P goes.list bad.2.within) in
           bad.3 ∙ sym (same_length also.0 bad.0 goes.more goes.list none) ∙ sym also.3
-        )
+          )
     ]
 
 -- the counts of a list of requests
@@ -154,8 +153,8 @@ bad_after bytes jobs rest tally text within counted more none =
       within = within;
       more = more;
       bad = λ job after is wider.
-        let added : tally_of (jobs ++ job ∷ []) ≡ with_request tally job (length (job_text job)) = (let push = tally_of-push jobs job in cc) in
-        none job after (last_request jobs job wider) is (subst P added (within_counts (jobs ++ job ∷ []) wider));
+          let added : tally_of (jobs ++ job ∷ []) ≡ with_request tally job (length (job_text job)) = (let push = tally_of-push jobs job in cc) in
+          none job after (last_request jobs job wider) is (subst P added (within_counts (jobs ++ job ∷ []) wider));
     }
 
 shorter_front : (a b x y : List ℕ) → length a ≤ length x → x ++ y ≡ a ++ b → (after : List ℕ) × (x ≡ a ++ after)
@@ -176,14 +175,22 @@ pub bad_front : (front more : List ℕ) (line : ℕ) → 16777216 < length front
 bad_front front more line long bad =
     let good = bad.0 in
     let rest = bad.1 in
-    let text = bad.2.text in
-    (good, rest ++ more, record {
-      text = ap (λ t. t ++ more) text ∙ append_assoc (texts good) rest more;
-      within = bad.2.within;
-      more = λ e. bad.2.more (empty_front rest more e);
-      bad = λ job after is wider.
-        let short : length (job_text job) ≤ length rest =
-          omega (arith, wider.bytes, ap length (texts-push good job), length-append (texts good) (job_text job), ap length text, length-append (texts good) rest) in
-        let parts = shorter_front (job_text job) after rest more short is in
-        bad.2.bad job parts.0 parts.1 wider;
-    }, bad.3)
+    let text = bad.2.text in (
+      good,
+      rest ++ more,
+      record {
+        text = ap (λ t. t ++ more) text ∙ append_assoc (texts good) rest more;
+        within = bad.2.within;
+        more = λ e. bad.2.more (empty_front rest more e);
+        bad = λ job after is wider.
+            let short : length (job_text job) ≤ length rest =
+            omega (arith, wider.bytes, ap length (texts-push good job), length-append (texts good) (job_text job), ap length text, length-append (texts good) rest) in
+            let parts = shorter_front (job_text job) after rest more short is in
+            bad.2.bad job parts.0 parts.1 wider;
+      },
+      bad.3,
+    )
+
+-- a text that means requests has not more than 16 MiB
+pub meaning_fits : (bytes : List ℕ) (jobs : List Job) → Means bytes jobs → length bytes ≤ 16777216
+meaning_fits bytes jobs means = omega (arith, ap length means.text, means.within.bytes)

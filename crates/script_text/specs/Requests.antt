@@ -1,11 +1,11 @@
 -- Request texts: a line for each request. The grammar is said by writing, since a request has exactly one text.
-use Rattle.std.specs.Prelude.{◌≡◌, ◌≢◌, ◌++◌, ℕ, ◌+◌, ◌^◌, ◌<◌, ◌≤◌, Bool, true, false, List, [], ◌∷◌, length, All, sum_by, flat_map, codes, decimal}
+use Rattle.std.specs.Prelude.{◌≡◌, ◌≢◌, ◌++◌, ℕ, ◌+◌, ◌^◌, ◌<◌, ◌≤◌, false, List, [], ◌∷◌, length, All, sum_by, flat_map, codes, decimal}
 use Rattle.storage_model.specs.declared.ends.TextEnd.{TextEnd}
 use Rattle.storage_model.specs.declared.ends.TextEnd.TheVariants.{Bad, NoMemory}
 use Rattle.storage_model.specs.declared.plan.Fill.{Fill}
-use Rattle.storage_model.specs.declared.plan.Fill.TheVariants.{Same, Ramp, Listed}
+use Rattle.storage_model.specs.declared.plan.Fill.TheVariants.{Same}
 use Rattle.storage_model.specs.declared.plan.Job.{Job}
-use Rattle.storage_model.specs.declared.plan.Job.TheVariants.{Read, Write, Flush, Barrier, Status}
+use Rattle.storage_model.specs.declared.plan.Job.TheVariants.{Read, Write}
 use Rattle.storage_model.specs.declared.plan.Plan.{Plan}
 use Rattle.storage_model.specs.Plan.{blocks_of}
 use Rattle.script_text.specs.Words.{line, hex_byte}

@@ -1,5 +1,5 @@
 -- Counts of what a reader of requests has taken.
-use Rattle.std.specs.Prelude.{◌≡◌, ℕ, ◌+◌, ◌≤◌}
+use Rattle.std.specs.Prelude.{ℕ, ◌+◌, ◌≤◌}
 use Rattle.storage_model.specs.declared.plan.Job.{Job}
 use Rattle.storage_model.specs.Plan.{blocks_of}
 use Rattle.script_text.specs.declared.requests.Tally.{Tally}

@@ -38,10 +38,12 @@ pub fn read_decimal_in(word: &[u8], low: u16, high: u16) -> Option<u16>
 pub fn read_hex_byte(word: &[u8]) -> Option<u8>
     ensures { Reads result (λ byte. (byte < 2 ^ 8) × (word.now ≡ hex_byte byte)) }
 {
-    match word {
-        [high, low] => Some(16 * digit_value(*high)? + digit_value(*low)?),
-        _ => None,
+    if word.len() != 2 {
+        return None;
     }
+    let high = digit_value(word[0])?;
+    let low = digit_value(word[1])?;
+    Some(16 * high + low)
 }
 
 fn digit_value(digit: u8) -> Option<u8>

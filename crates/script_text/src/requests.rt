@@ -12,7 +12,9 @@ use std::alloc::Global;
 use storage_model::{BlockList, Job, JobList, Plan, TextEnd};
 
 const MAX_REQUESTS: u32 = 65_536;
+
 const MAX_BLOCKS: u32 = 131_072;
+
 const MAX_BYTES: usize = 16_777_216;
 
 /// The plan that a text means: its requests, with the settings that a text without any has. `Bad` gives the first line,
@@ -48,7 +50,9 @@ fn read_jobs(alloc: Global, bytes: &[u8]) -> Result<JobList, TextEnd>
     let mut rest = bytes;
     while !rest.is_empty() {
         let Some((job, after, counted)) = next_request(rest, tally) else {
-            return Err(TextEnd::Bad { line: tally.requests + 1 });
+            return Err(TextEnd::Bad {
+                line: tally.requests + 1,
+            });
         };
         jobs.push(job)?;
         tally = counted;

@@ -15,14 +15,29 @@ fn requests_are_read(rt: HostRuntime) -> Result<(), Fail> {
     let alloc = rt.alloc();
     let plan = read_requests(alloc, b"write 0 1 fill aa\nread 4294967295 1024\n")?;
     assert_eq!(rt; plan.jobs.len(), 2);
-    assert!(rt; matches!(
-        plan.jobs.at(0),
-        Job::Write { sector: 0, blocks: 1, fill: Fill::Same(0xaa), forced: false, reliable: false, high: false }
-    ));
-    assert!(rt; matches!(
-        plan.jobs.at(1),
-        Job::Read { sector: 4_294_967_295, blocks: 1024, high: false }
-    ));
+    assert!(rt;
+        matches!(
+            plan.jobs.at(0),
+            Job::Write {
+                sector: 0,
+                blocks: 1,
+                fill: Fill::Same(0xaa),
+                forced: false,
+                reliable: false,
+                high: false
+            }
+        )
+    );
+    assert!(rt;
+        matches!(
+            plan.jobs.at(1),
+            Job::Read {
+                sector: 4_294_967_295,
+                blocks: 1024,
+                high: false
+            }
+        )
+    );
     assert_eq!(rt; plan.depth, 16);
     assert_eq!(rt; plan.lines, 64);
     assert!(rt; read_requests(alloc, b"")?.jobs.is_empty());
@@ -57,6 +72,11 @@ fn the_first_bad_line_is_given(rt: HostRuntime) -> Result<(), Fail> {
 fn only_the_empty_fault_text_is_read(rt: HostRuntime) -> Result<(), Fail> {
     let alloc = rt.alloc();
     assert!(rt; read_faults(alloc, b"")?.cuts.is_empty());
-    assert!(rt; matches!(read_faults(alloc, b"cut 1\n"), Err(TextEnd::Bad { line: 1 })));
+    assert!(rt;
+        matches!(
+            read_faults(alloc, b"cut 1\n"),
+            Err(TextEnd::Bad { line: 1 })
+        )
+    );
     Ok(())
 }

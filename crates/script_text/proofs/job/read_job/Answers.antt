@@ -1,4 +1,4 @@
-use Rattle.std.proofs.Common.{◌≡◌, ◌∙◌, ◌∷◌, sym, ap, codes, arith, rules, length}
+use Rattle.std.proofs.Common.{◌≡◌, ◌∷◌, codes, arith, rules}
 use Rattle.script_text.specs.Words.{words_of}
 use Rattle.script_text.proofs.JobWords.{reads_line}
 use Rattle.std.proofs.lemmas.Slice.Eq.{text_from_reads}

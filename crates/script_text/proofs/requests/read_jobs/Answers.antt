@@ -1,4 +1,4 @@
-use Rattle.std.proofs.Common.{◌≡◌, ◌∙◌, ◌+◌, ap, sym, length, arith, refl}
+use Rattle.std.proofs.Common.{◌+◌, ap, length, arith}
 use Rattle.std.proofs.lemmas.List.{length-append}
 use Rattle.script_text.specs.Requests.{job_text}
 use Rattle.script_text.proofs.Meanings.{bad_after, job_text-long}

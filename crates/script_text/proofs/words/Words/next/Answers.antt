@@ -1,4 +1,4 @@
-use Rattle.std.proofs.Common.{◌≡◌, ◌∙◌, sym}
+use Rattle.std.proofs.Common.{◌∙◌, sym}
 use Rattle.script_text.proofs.Lines.{words_more, words_last}
 use Rattle.script_text.proofs.words.Words.next.Goals as goal
 
