@@ -1,7 +1,7 @@
 // Which fault befalls a call, and what it leaves of a page.
 ghost use Rattle.std.specs.Prelude.{◌≡◌, ◌≢◌, ◌<◌, ℕ};
 ghost use Rattle.storage_model.specs.Granule.{granule};
-ghost use Rattle.array_edge.specs.Hits.{IsMasked, hit_of, is_hit};
+ghost use Rattle.array_edge.specs.Hits.{IsMasked, IsPast, IsValidArrayHits, hit_of, is_hit};
 
 use storage_model::{ArrayHit, ArrayHits, Block};
 
@@ -13,6 +13,33 @@ pub(crate) fn find_hit(hits: &ArrayHits, fetch: bool, number: u64) -> Option<Arr
         .iter()
         .copied()
         .find(|hit| befalls(hit, fetch, number))
+}
+
+/// The same over a list whose numbers rise, by its next faults: the place moves on past those of smaller numbers.
+pub(crate) fn meet_hit(
+    hits: &[ArrayHit],
+    place: &mut usize,
+    fetch: bool,
+    number: u64,
+) -> Option<ArrayHit>
+    requires valid { IsValidArrayHits hits.now }
+    requires past { IsPast hits.now fetch number place.old }
+    ensures past { IsPast hits.now fetch number place.new }
+    ensures met { result ≡ hit_of hits.now fetch number }
+{
+    while *place < hits.len() {
+        let hit = hits[*place];
+        if hit.fetch == fetch {
+            if u64::from(hit.n) == number {
+                return Some(hit);
+            }
+            if u64::from(hit.n) > number {
+                return None;
+            }
+        }
+        *place += 1;
+    }
+    None
 }
 
 fn befalls(hit: &ArrayHit, fetch: bool, number: u64) -> bool
