@@ -1,4 +1,4 @@
-ghost use Rattle.std.specs.Prelude.{◌≡◌, ◌<◌, ◌^◌, IsTrue};
+ghost use Rattle.std.specs.Prelude.{◌≡◌, ◌<◌, ◌^◌, IsTrue, if◌then◌else◌};
 
 use crate::{bits, with_bits};
 
@@ -41,6 +41,13 @@ impl BitField {
         ensures { result ≡ record { field = self; value = value } }
     {
         FieldValue { field: self, value }
+    }
+
+    /// The field with 1 or 0 to stand in it, for true or false.
+    pub fn flag(self, set: bool) -> FieldValue
+        ensures { result ≡ record { field = self; value = (if set then 1 else 0) } }
+    {
+        self.of(u64::from(set))
     }
 }
 
