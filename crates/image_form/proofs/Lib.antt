@@ -1,2 +1,3 @@
 mod Heads
-mod Forms
+pub mod Forms
+pub mod Images
