@@ -1,0 +1,3 @@
+mod Heads
+pub mod Forms
+pub mod Images

@@ -1,0 +1,13 @@
+use Rattle.std.proofs.Common.{arith}
+use Rattle.intent_store.proofs.Steps.{stands_other, shown_keep}
+use Rattle.intent_store.proofs.intent.Intent.keep.Goals as goal
+
+pub returns-clause-stands : goal.returns-clause-stands
+returns-clause-stands g c =
+    stands_other (g.A.Array.state c.args.array.now) (g.A.Array.state c.program.new.array) c.args.self.now 2 c.args.block.now c.program.result (omega arith)
+    c.requires.stands c.program.ensures.written c.program.ensures.ends
+
+pub returns-clause-shown : goal.returns-clause-shown
+returns-clause-shown g c =
+    shown_keep (g.A.Array.state c.args.array.now) (g.A.Array.state c.program.new.array) c.args.self.now c.args.block.now c.program.result c.requires.shut
+    c.requires.stands c.program.ensures.written

@@ -1,0 +1,37 @@
+ghost use Rattle.std.specs.Prelude.{◌≡◌, ◌<◌, OnOk, OnErr};
+ghost use Rattle.array_edge.specs.Array.{ArrayState, HasPage, IsTorn, with_page};
+ghost use Rattle.intent_store.specs.Intent.{StoreEnds, IsRefusedOff, IsWritten};
+
+use crate::StoreEnd;
+use array_edge::{Array, ArrayEnd};
+use storage_model::Block;
+
+// Reads a page.
+pub fn fetch<A: Array>(array: &mut A, page: u32, block: &mut Block) -> Result<(), StoreEnd>
+    requires { page < (A.state array.old).count }
+    ensures read { OnOk result (HasPage (A.state array.old).told page block.new) }
+    ensures told { (A.state array.new).told ≡ (A.state array.old).told }
+    ensures ends { StoreEnds (A.state array.old) (A.state array.new) result }
+    ensures off { IsRefusedOff (A.state array.old) (A.state array.new) result }
+{
+    match array.fetch(page, block) {
+        Ok(()) => Ok(()),
+        Err(ArrayEnd::Failed) => Err(StoreEnd::Flash),
+        Err(ArrayEnd::PowerLost) => Err(StoreEnd::PowerLost),
+    }
+}
+
+// Writes a page.
+#[tactic(auto, using(crate::proofs::Writes::whole_write, crate::proofs::Writes::torn_write))]
+pub fn program<A: Array>(array: &mut A, page: u32, block: &Block) -> Result<(), StoreEnd>
+    requires { page < (A.state array.old).count }
+    ensures written { IsWritten (A.state array.old).told page block.now (A.state array.new).told result }
+    ensures ends { StoreEnds (A.state array.old) (A.state array.new) result }
+    ensures off { IsRefusedOff (A.state array.old) (A.state array.new) result }
+{
+    match array.program(page, block) {
+        Ok(()) => Ok(()),
+        Err(ArrayEnd::Failed) => Err(StoreEnd::Flash),
+        Err(ArrayEnd::PowerLost) => Err(StoreEnd::PowerLost),
+    }
+}
