@@ -1,3 +1,6 @@
+pub mod Contents
 pub mod Count
 pub mod Granule
+pub mod Keep
+pub mod Left
 pub mod Plan
