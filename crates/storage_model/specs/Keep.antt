@@ -1,5 +1,5 @@
 -- Contents and marks after named sectors were made durable: a forced or reliable write keeps its own sectors, a cache flush keeps all (JESD84-B51, the cache).
-use Rattle.std.specs.Prelude.{ℕ, ◌+◌, ◌==◌, ◌&&◌, ◌||◌, Bool, true, not, nat_lt, nat_le, List, map, filter}
+use Rattle.std.specs.Prelude.{ℕ, ◌+◌, ◌&&◌, ◌||◌, Bool, true, not, nat_lt, nat_le, List, map, filter}
 use Rattle.storage_model.specs.Contents.{EpochPut, bars, numbered, put_all}
 use Rattle.storage_model.specs.declared.block.Block.{Block}
 use Rattle.storage_model.specs.declared.marks.Mark.{Mark}
