@@ -10,11 +10,11 @@ use Rattle.storage_model.specs.declared.marks.Mark.TheVariants.{Put as PutMark, 
 
 -- contents c after what is kept of the marks, which begin in epoch e
 unfoldable pub base_after : ℕ → (ℕ → Bool) → ℕ → List Block → List Mark → List Block
-base_after last named e c marks = put_all c (filter (is_kept last named) (numbered e marks))
+base_after last named e c marks = put_all c (map (λ q. q.put) (filter (is_kept last named) (numbered e marks)))
 
 -- the others before, and then the marks that are not kept
 unfoldable pub others_after : ℕ → (ℕ → Bool) → ℕ → List Mark → List Mark → List Mark
-others_after last named e others marks = others ++ map (λ (q : EpochPut). PutMark q.put) (filter (λ (q : EpochPut). not (is_kept last named q)) (numbered e marks))
+others_after last named e others marks = others ++ map PutMark (map (λ (q : EpochPut). q.put) (filter (λ (q : EpochPut). not (is_kept last named q)) (numbered e marks)))
 
 pub base_start : (last : ℕ) (named : ℕ → Bool) (base c : List Block) (pend : List Mark) → last ≡ bars pend → c ≡ base → base_after last named 0 c pend ≡ keep_base named base pend
 unfolding base_after keep_base

@@ -2,7 +2,8 @@
 use Rattle.std.proofs.Common.{◌≡◌, ℕ, ◌<◌, Bool, true, false, List, [], ◌↔◌, All, length, replicate, refl, sym, ◌∙◌, arith}
 use Rattle.std.proofs.lemmas.Bool.Decides.{same_from_decides, Decides-below_and, Decides-like}
 use Rattle.std.proofs.lemmas.List.{get_or_default, get_or-replicate}
-use Rattle.storage_model.specs.Left.{Covers, every_below, has_granule, is_mix}
+use Rattle.storage_model.specs.Cover.{Covers}
+use Rattle.storage_model.specs.Left.{every_below, has_granule, is_mix}
 use Rattle.storage_model.specs.declared.block.Block.{Block}
 
 pub full_is : (cover : List Bool) (values : List Block) (w : Block) (full : Bool) → length cover ≡ 8 → Covers cover values w → ((full ≡ true) ↔ All (λ has. has ≡ true) cover) → full ≡ is_mix values w

@@ -1,22 +1,23 @@
 -- A pass over the marks that looks at one sector: whether a value may be left of it, where a given epoch was being written.
-use Rattle.std.proofs.Common.{◌≡◌, ◌≢◌, ℕ, ◌+◌, ◌<◌, ◌≤◌, inl, inr, Bool, true, false, ◌&&◌, ◌||◌, ◌==◌, nat_lt, if◌then◌else◌, List, [], ◌∷◌, ◌++◌, filter, length, refl, sym, ap, ◌∙◌, arith}
+use Rattle.std.proofs.Common.{◌≡◌, ◌≢◌, ℕ, ◌+◌, ◌<◌, ◌≤◌, inl, inr, Bool, true, false, ◌&&◌, ◌||◌, ◌==◌, nat_lt, if◌then◌else◌, List, [], ◌∷◌, ◌++◌, filter, map, length, refl, sym, ap, ◌∙◌, arith}
 use Rattle.std.proofs.Math.Bool.{or-false}
 use Rattle.std.proofs.Math.ListN.{length-set}
 use Rattle.std.proofs.lemmas.Bool.{cases_Bool, lt-ltb, le-ltb, eq-eqb, ne_eqb, cases_lt}
 use Rattle.storage_model.proofs.Applied.{sector_put_same, sector_put_other}
 use Rattle.storage_model.specs.Contents.{EpochPut, numbered, put_all, put_on, sector_at, before_epoch, puts_at}
-use Rattle.storage_model.specs.Left.{Covers, is_mix, is_mix_of_segment, mix_at, segments}
+use Rattle.storage_model.specs.Cover.{Covers}
+use Rattle.storage_model.specs.Left.{is_mix, is_mix_of_segment, mix_at, segments}
 use Rattle.storage_model.specs.declared.block.Block.{Block}
 use Rattle.storage_model.specs.declared.marks.Put.{Put}
 use Rattle.storage_model.specs.declared.marks.Mark.{Mark}
 use Rattle.storage_model.specs.declared.marks.Mark.TheVariants.{Put as PutMark, Bar}
 
 -- the puts of epochs before e; the puts on sector s in epoch e
-abbrev pub early : ℕ → List EpochPut → List EpochPut
-early e puts = filter (λ q. nat_lt q.epoch e) puts
+abbrev pub early : ℕ → List EpochPut → List Put
+early e puts = map (λ q. q.put) (filter (λ q. nat_lt q.epoch e) puts)
 
-abbrev pub own : ℕ → ℕ → List EpochPut → List EpochPut
-own e s puts = filter (λ q. (q.epoch == e) && (q.put.sector == s)) puts
+abbrev pub own : ℕ → ℕ → List EpochPut → List Put
+own e s puts = map (λ q. q.put) (filter (λ q. (q.epoch == e) && (q.put.sector == s)) puts)
 
 -- The answer, from epoch k on, where `values` are those of the sector that may mix so far. Before epoch e they are its one value.
 abbrev pub scan : ℕ → ℕ → Block → ℕ → List Block → List Mark → Bool

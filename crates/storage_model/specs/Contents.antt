@@ -1,5 +1,5 @@
 -- Contents, and the marks that a cache holds over them: puts, and the barriers that part the puts into epochs (JESD84-B51, the sections on the cache and its barrier).
-use Rattle.std.specs.Prelude.{ℕ, ◌+◌, ◌<◌, ◌==◌, ◌&&◌, nat_lt, ⊤, List, [], ◌∷◌, length, fold, filter, slice_index_or, slice_set}
+use Rattle.std.specs.Prelude.{ℕ, ◌+◌, ◌<◌, ◌==◌, ◌&&◌, nat_lt, ⊤, Bool, List, [], ◌∷◌, length, fold, filter, map, slice_index_or, slice_set}
 use Rattle.storage_model.specs.declared.block.Block.{Block}
 use Rattle.storage_model.specs.declared.marks.Put.{Put}
 use Rattle.storage_model.specs.declared.marks.Mark.{Mark}
@@ -44,14 +44,18 @@ numbered e [] = []
 numbered e (PutMark put ∷ marks) = record { epoch = e; put = put } ∷ numbered e marks
 numbered e (Bar ∷ marks) = numbered (e + 1) marks
 
--- contents after numbered puts, in order
-abbrev pub put_all : List Block → List EpochPut → List Block
-put_all contents puts = fold (λ c q. put_on c q.put) contents puts
+-- the puts that pass a test, in order
+abbrev pub puts_if : (EpochPut → Bool) → List Mark → List Put
+puts_if test pend = map (λ q. q.put) (filter test (numbered 0 pend))
+
+-- contents after puts, in order
+abbrev pub put_all : List Block → List Put → List Block
+put_all contents puts = fold put_on contents puts
 
 -- contents after all epochs before e
 unfoldable pub before_epoch : ℕ → List Block → List Mark → List Block
-before_epoch e base pend = put_all base (filter (λ q. nat_lt q.epoch e) (numbered 0 pend))
+before_epoch e base pend = put_all base (puts_if (λ q. nat_lt q.epoch e) pend)
 
 -- the puts on sector s in epoch e
-unfoldable pub puts_at : ℕ → ℕ → List Mark → List EpochPut
-puts_at e s pend = filter (λ q. (q.epoch == e) && (q.put.sector == s)) (numbered 0 pend)
+unfoldable pub puts_at : ℕ → ℕ → List Mark → List Put
+puts_at e s pend = puts_if (λ q. (q.epoch == e) && (q.put.sector == s)) pend

@@ -1,6 +1,6 @@
 -- Contents and marks after named sectors were made durable: a forced or reliable write keeps its own sectors, a cache flush keeps all (JESD84-B51, the cache).
-use Rattle.std.specs.Prelude.{ℕ, ◌+◌, ◌&&◌, ◌||◌, Bool, true, not, nat_lt, nat_le, List, map, filter}
-use Rattle.storage_model.specs.Contents.{EpochPut, bars, numbered, put_all}
+use Rattle.std.specs.Prelude.{ℕ, ◌+◌, ◌&&◌, ◌||◌, Bool, true, not, nat_lt, nat_le, List, map}
+use Rattle.storage_model.specs.Contents.{EpochPut, bars, put_all, puts_if}
 use Rattle.storage_model.specs.declared.block.Block.{Block}
 use Rattle.storage_model.specs.declared.marks.Mark.{Mark}
 use Rattle.storage_model.specs.declared.marks.Mark.TheVariants.{Put as PutMark}
@@ -19,8 +19,8 @@ is_kept last named q = nat_lt q.epoch last || named q.put.sector
 
 -- the contents then
 unfoldable pub keep_base : (ℕ → Bool) → List Block → List Mark → List Block
-keep_base named base pend = put_all base (filter (is_kept (bars pend) named) (numbered 0 pend))
+keep_base named base pend = put_all base (puts_if (is_kept (bars pend) named) pend)
 
 -- the marks then: the other puts, in order and without a barrier
 unfoldable pub keep_pend : (ℕ → Bool) → List Mark → List Mark
-keep_pend named pend = map (λ q. PutMark q.put) (filter (λ q. not (is_kept (bars pend) named q)) (numbered 0 pend))
+keep_pend named pend = map PutMark (puts_if (λ q. not (is_kept (bars pend) named q)) pend)

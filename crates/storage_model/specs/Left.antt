@@ -1,10 +1,11 @@
 -- What a loss of power may leave of contents under marks. A reliable write leaves a sector old or new (JESD84-B51, reliable write);
 -- ordinary writes of an epoch may mix by granules; and nothing of an epoch is left where an earlier one is not whole (the cache barrier).
-use Rattle.std.specs.Prelude.{◌≡◌, ℕ, zero, suc, ◌+◌, ◌<◌, Bool, true, false, ◌&&◌, ◌||◌, if◌then◌else◌, List, [], ◌∷◌, ◌++◌, length, slice_index_or, bytes_eq}
+use Rattle.std.specs.Prelude.{ℕ, zero, suc, ◌+◌, Bool, true, false, ◌&&◌, ◌||◌, if◌then◌else◌, List, [], ◌∷◌, ◌++◌, length, bytes_eq}
 use Rattle.std.specs.List.{list_any}
-use Rattle.storage_model.specs.Contents.{EpochPut, bars, before_epoch, puts_at, sector_at}
+use Rattle.storage_model.specs.Contents.{bars, before_epoch, puts_at, sector_at}
 use Rattle.storage_model.specs.Granule.{granule}
 use Rattle.storage_model.specs.declared.block.Block.{Block}
+use Rattle.storage_model.specs.declared.marks.Put.{Put}
 use Rattle.storage_model.specs.declared.marks.Mark.{Mark}
 
 -- the test passes at each number below n
@@ -30,9 +31,9 @@ unfoldable pub is_mix : List Block → Block → Bool
 is_mix values w = every_below 8 (has_granule values w)
 
 -- The values of a sector in an epoch, from those at hand on, parted in front of each reliable put. The values of a segment may mix, those of two may not.
-abbrev pub segments : List Block → List EpochPut → List (List Block)
+abbrev pub segments : List Block → List Put → List (List Block)
 segments values [] = values ∷ []
-segments values (q ∷ puts) = if q.put.reliable then values ∷ segments (q.put.value ∷ []) puts else segments (values ++ q.put.value ∷ []) puts
+segments values (put ∷ puts) = if put.reliable then values ∷ segments (put.value ∷ []) puts else segments (values ++ put.value ∷ []) puts
 
 -- w is a mix of one segment
 abbrev pub is_mix_of_segment : List (List Block) → Block → Bool
@@ -49,7 +50,3 @@ is_left_in base pend after e = every_below (length base) (λ s. mix_at base pend
 -- `after` may be left: there is such an epoch
 unfoldable pub is_left : List Block → List Mark → List Block → Bool
 is_left base pend after = some_below (bars pend + 1) (is_left_in base pend after)
-
--- for each granule of w, `cover` says whether one of the values has it
-pub record Covers (cover : List Bool) (values : List Block) (w : Block) : Type 0 where
-  pub each : (g : ℕ) → g < 8 → slice_index_or cover g false ≡ has_granule values w g

@@ -1,5 +1,6 @@
 pub mod Contents
 pub mod Count
+pub mod Cover
 pub mod Granule
 pub mod Keep
 pub mod Left
