@@ -102,43 +102,4 @@ fn is_same_granule(granule: usize, value: &Block, other: &Block) -> bool
 }
 
 #[cfg(test)]
-mod tests {
-    use crate::{Block, Mark, NoMemory, Put, keep, left_allows, mix_allows, now};
-
-    fn put(sector: u32, byte: u8) -> Mark {
-        Mark::Put(Put {
-            sector,
-            value: Block([byte; 512]),
-            reliable: false,
-        })
-    }
-
-    // Sector 0 is written, and sector 1 behind a barrier.
-    #[test]
-    fn a_barrier_orders_two_puts(rt: HostRuntime) -> Result<(), NoMemory> {
-        let zeros = Block([0; 512]);
-        let (first, second) = (Block([0xaa; 512]), Block([0xbb; 512]));
-        let base = [zeros, zeros];
-        let written = [first, second];
-        let pend = [put(0, 0xaa), Mark::Bar, put(1, 0xbb)];
-
-        let contents = now(rt.alloc(), &base, &pend)?;
-        assert!(&rt; contents.as_slice() == written.as_slice());
-
-        for (after, allowed) in [
-            ([zeros, zeros], true),
-            ([first, zeros], true),
-            (written, true),
-            ([zeros, second], false),
-        ] {
-            assert_eq!(&rt; left_allows(&base, &pend, &after), allowed);
-        }
-        assert!(&rt; mix_allows(&base, &pend, 1, 1, &second));
-        assert!(&rt; !mix_allows(&base, &pend, 1, 0, &zeros));
-
-        let kept = keep(rt.alloc(), &base, &pend, 1, 1)?;
-        assert!(&rt; kept.base.as_slice() == written.as_slice());
-        assert!(&rt; kept.pend.is_empty());
-        Ok(())
-    }
-}
+mod tests;
