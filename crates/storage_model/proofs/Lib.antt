@@ -1,3 +1,4 @@
+pub mod Appends
 pub mod Applied
 pub mod Below
 pub mod Cuts
@@ -5,4 +6,5 @@ pub mod Keeps
 pub mod Mixes
 pub mod Passes
 pub mod Ramps
+pub mod Remains
 pub mod Scans

@@ -8,4 +8,4 @@ pub returns : goal.returns
 returns c = λ base long.
     let second = PutMark (record { sector = 1; value = c.args.second; reliable = false }) in
     All-cons (IsWithin base) (PutMark (record { sector = 0; value = c.args.first; reliable = false })) (Bar ∷ second ∷ []) (omega arith)
-      (All-cons (IsWithin base) Bar (second ∷ []) tt (All-cons (IsWithin base) second [] (omega arith) (All-nil (IsWithin base))))
+    (All-cons (IsWithin base) Bar (second ∷ []) tt (All-cons (IsWithin base) second [] (omega arith) (All-nil (IsWithin base))))
