@@ -2,6 +2,7 @@ pub mod Appends
 pub mod Applied
 pub mod Below
 pub mod Cuts
+pub mod Durable
 pub mod Keeps
 pub mod Mixes
 pub mod Passes
