@@ -73,7 +73,7 @@ contents_now-numbered base e (Bar ∷ pend) = contents_now-numbered base (e + 1)
 
 -- epochs in front of a mark are as they were
 
-early_all : (e k : ℕ) (marks : List Mark) → k + bars marks < e → filter (λ q. nat_lt q.epoch e) (numbered k marks) ≡ numbered k marks
+pub early_all : (e k : ℕ) (marks : List Mark) → k + bars marks < e → filter (λ q. nat_lt q.epoch e) (numbered k marks) ≡ numbered k marks
 early_all e k [] h = refl
 early_all e k (PutMark put ∷ marks) h = rw (lt-ltb k e (omega arith)) (ap (λ qs. record { epoch = k; put = put } ∷ qs) (early_all e k marks h))
 early_all e k (Bar ∷ marks) h = early_all e (k + 1) marks (omega arith)
@@ -119,7 +119,7 @@ pub puts_at-put_past : (e s : ℕ) (pend : List Mark) (put : Put) → (e ≢ bar
 puts_at-put_past e s pend put past = rw (puts_at-append e s pend (PutMark put ∷ []), ne_eqb (bars pend) e (λ h. past (sym h)), append-nil) refl
 
 -- the epoch that a bar begins is empty
-own_past : (e s k : ℕ) (marks : List Mark) → k + bars marks < e → own e s (numbered k marks) ≡ []
+pub own_past : (e s k : ℕ) (marks : List Mark) → k + bars marks < e → own e s (numbered k marks) ≡ []
 own_past e s k [] h = refl
 own_past e s k (PutMark put ∷ marks) h = rw (ne_eqb k e (omega arith)) (own_past e s k marks (omega arith))
 own_past e s k (Bar ∷ marks) h = own_past e s (k + 1) marks (omega arith)

@@ -9,3 +9,4 @@ pub mod Passes
 pub mod Ramps
 pub mod Remains
 pub mod Scans
+pub mod Splits

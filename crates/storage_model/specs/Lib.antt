@@ -3,5 +3,6 @@ pub mod Count
 pub mod Cover
 pub mod Granule
 pub mod Keep
+pub mod Laws
 pub mod Left
 pub mod Plan
