@@ -1,3 +1,3 @@
-pub mod Parts
+pub mod Arguments
 pub mod Decoding
 pub mod StatusBits

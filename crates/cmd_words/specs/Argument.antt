@@ -1,17 +1,13 @@
--- The argument of a command, by its parts (JESD84-B51, section 6.10.4).
-use Rattle.std.specs.Prelude.{ℕ, List, [], ◌∷◌}
-use Rattle.cq_words.specs.Fields.{field_of, with_field}
-use Rattle.cmd_words.specs.declared.argument.Place.{Place}
+-- The argument of a command, as a table of its fields (JESD84-B51, section 6.10.4).
+use Rattle.std.specs.Prelude.{ℕ, ◌+◌, nat_le, Bool, List}
+use Rattle.std.specs.List.{list_all}
+use Rattle.cq_words.specs.declared.table.BitField.{BitField}
+use Rattle.cq_words.specs.declared.table.FieldValue.{FieldValue}
 
--- what an argument has in a place
-abbrev pub part : ℕ → Place → ℕ
-part arg place = field_of arg place.low place.width
+-- a field and what stands in it
+abbrev pub at : BitField → ℕ → FieldValue
+at field value = record { field = field; value = value }
 
--- an argument with a value in a place
-abbrev pub with_part : ℕ → Place → ℕ → ℕ
-with_part arg place value = with_field arg place.low place.width value
-
--- the argument that has these values in these places, and 0 elsewhere
-abbrev pub packed : List (Place × ℕ) → ℕ
-packed [] = 0
-packed (part ∷ parts) = with_part (packed parts) part.0 part.1
+-- whether the fields lie in the lowest 32 bits
+abbrev pub ends_below_32 : List FieldValue → Bool
+ends_below_32 table = list_all (λ entry. nat_le (entry.field.low + entry.field.width) 32) table

@@ -3,7 +3,7 @@ ghost use Rattle.cmd_words.specs.Command.{index_of, argument_of, managed, decode
 
 use crate::argument::{
     BLOCKS, FORCED, HIGH, ONE_TASK, OPERATION, QUEUE, RCA, READ, RELIABLE, TASK, WHOLE_QUEUE,
-    is_set, part_of, put,
+    argument_of,
 };
 use crate::index::{
     CMDQ_TASK_MGMT, EXECUTE_READ_TASK, EXECUTE_WRITE_TASK, QUEUED_TASK_ADDRESS, QUEUED_TASK_PARAMS,
@@ -47,8 +47,7 @@ pub enum Command {
 pub struct Illegal;
 
 impl Command {
-    /// The index and the argument. Of a task's number the lowest 5 bits are taken, and where the whole queue is discarded
-    /// it is 0.
+    /// The index and the argument. A task's number is cut to its lowest 5 bits, and is 0 where the whole queue is discarded.
     pub fn encode(&self) -> (u8, u32)
         ensures index { result.0 ≡ index_of self.now }
         ensures argument { result.1 ≡ argument_of self.now }
@@ -80,25 +79,21 @@ impl Command {
     {
         match self {
             Command::Switch { arg } | Command::Other { arg, .. } => *arg,
-            Command::Status { queue, rca } => put(
-                put(0, RCA, u32::from(*rca)),
-                QUEUE,
-                u32::from(*queue),
-            ),
+            Command::Status { queue, rca } => {
+                argument_of(&[RCA.of(u64::from(*rca)), QUEUE.flag(*queue)])
+            }
             Command::Params(task) => task.argument(),
             Command::Address(start) => *start,
-            Command::Execute { task, .. } => put(0, TASK, u32::from(task % 32)),
-            Command::Manage { whole: true, .. } => put(0, OPERATION, WHOLE_QUEUE),
-            Command::Manage { whole: false, task } => put(
-                put(0, TASK, u32::from(task % 32)),
-                OPERATION,
-                ONE_TASK,
-            ),
+            Command::Execute { task, .. } => argument_of(&[TASK.of(u64::from(*task))]),
+            Command::Manage { whole: true, .. } => argument_of(&[OPERATION.of(WHOLE_QUEUE)]),
+            Command::Manage { whole: false, task } => {
+                argument_of(&[TASK.of(u64::from(*task)), OPERATION.of(ONE_TASK)])
+            }
         }
     }
 
-    /// The command of an index and an argument. The RCA, the context, the tag request and the command set are not looked
-    /// at, nor any bit that has no meaning; where the whole queue is discarded the number of the task is read as 0.
+    /// The command of an index and an argument. Bits without a meaning here are not looked at, the context and the tag
+    /// request of CMD44 among them; where the whole queue is discarded, the number of the task is read as 0.
     #[tactic(auto, unfolding(crate::specs::Command::decoded))]
     pub fn decode(index: u8, arg: u32) -> Result<Command, Illegal>
         ensures value { result ≡ decoded index arg }
@@ -108,18 +103,18 @@ impl Command {
         match index {
             SWITCH => Ok(Command::Switch { arg }),
             SEND_STATUS => Ok(Command::Status {
-                queue: is_set(arg, QUEUE),
-                rca: part_of(arg, RCA) as u16,
+                queue: QUEUE.is_set(u64::from(arg)),
+                rca: RCA.get(u64::from(arg)) as u16,
             }),
             QUEUED_TASK_PARAMS => Ok(Command::Params(Task::named_by(arg))),
             QUEUED_TASK_ADDRESS => Ok(Command::Address(arg)),
             EXECUTE_READ_TASK => Ok(Command::Execute {
                 read: true,
-                task: part_of(arg, TASK) as u8,
+                task: TASK.get(u64::from(arg)) as u8,
             }),
             EXECUTE_WRITE_TASK => Ok(Command::Execute {
                 read: false,
-                task: part_of(arg, TASK) as u8,
+                task: TASK.get(u64::from(arg)) as u8,
             }),
             CMDQ_TASK_MGMT => managed(arg),
             _ => Err(Illegal),
@@ -128,19 +123,22 @@ impl Command {
 }
 
 impl Task {
-    ghost use Rattle.cmd_words.specs.Command.{task_argument, task_in};
+    ghost use Rattle.cq_words.specs.Table.{word_with};
+    ghost use Rattle.cmd_words.specs.Command.{task_table, task_in};
 
     // The argument of CMD44.
     fn argument(&self) -> u32
-        ensures value { result ≡ task_argument self.now }
+        ensures value { result ≡ word_with (task_table self.now) }
         ensures in_range { self.now.blocks < 2 ^ 16 }
     {
-        let word = put(0, RELIABLE, u32::from(self.reliable));
-        let word = put(word, READ, u32::from(self.read));
-        let word = put(word, FORCED, u32::from(self.forced));
-        let word = put(word, HIGH, u32::from(self.high));
-        let word = put(word, TASK, u32::from(self.task % 32));
-        put(word, BLOCKS, u32::from(self.blocks))
+        argument_of(&[
+            RELIABLE.flag(self.reliable),
+            READ.flag(self.read),
+            FORCED.flag(self.forced),
+            HIGH.flag(self.high),
+            TASK.of(u64::from(self.task)),
+            BLOCKS.of(u64::from(self.blocks)),
+        ])
     }
 
     // The task that the argument of CMD44 names.
@@ -149,12 +147,12 @@ impl Task {
         ensures exact { result.task < 32 }
     {
         Task {
-            task: part_of(arg, TASK) as u8,
-            read: is_set(arg, READ),
-            blocks: part_of(arg, BLOCKS) as u16,
-            forced: is_set(arg, FORCED),
-            reliable: is_set(arg, RELIABLE),
-            high: is_set(arg, HIGH),
+            task: TASK.get(u64::from(arg)) as u8,
+            read: READ.is_set(u64::from(arg)),
+            blocks: BLOCKS.get(u64::from(arg)) as u16,
+            forced: FORCED.is_set(u64::from(arg)),
+            reliable: RELIABLE.is_set(u64::from(arg)),
+            high: HIGH.is_set(u64::from(arg)),
         }
     }
 }
@@ -164,14 +162,14 @@ fn managed(arg: u32) -> Result<Command, Illegal>
     ensures value { result ≡ managed arg }
     ensures exact { IfOk result IsExact }
 {
-    match part_of(arg, OPERATION) {
+    match OPERATION.get(u64::from(arg)) {
         WHOLE_QUEUE => Ok(Command::Manage {
             whole: true,
             task: 0,
         }),
         ONE_TASK => Ok(Command::Manage {
             whole: false,
-            task: part_of(arg, TASK) as u8,
+            task: TASK.get(u64::from(arg)) as u8,
         }),
         _ => Err(Illegal),
     }

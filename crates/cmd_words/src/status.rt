@@ -1,10 +1,10 @@
 ghost use Rattle.std.specs.Prelude.{⊤, ◌≡◌, [], ◌∷◌, codes};
-ghost use Rattle.cmd_words.specs.Argument.{part};
+ghost use Rattle.cq_words.specs.Table.{number_in};
 ghost use Rattle.cmd_words.specs.Status.{status_word};
 ghost use Rattle.std.specs.Int.RustNames.{bit_and};
 
-use crate::argument::Place;
 use bitflags::{Flag, Flags, bitflag_items};
+use cq_words::BitField;
 
 /// The bits of the device status that this card can set, all of them errors (JESD84-B51, section 6.13; R1_OUT_OF_RANGE
 /// and its like in Linux).
@@ -12,10 +12,10 @@ use bitflags::{Flag, Flags, bitflag_items};
 pub struct Status(u32);
 
 /// Where the word has the state of the card.
-pub const CURRENT_STATE: Place = Place { low: 9, width: 4 };
+pub const CURRENT_STATE: BitField = BitField { low: 9, width: 4 };
 
 /// Where the word says that the card is ready for data.
-pub const READY_FOR_DATA: Place = Place { low: 8, width: 1 };
+pub const READY_FOR_DATA: BitField = BitField { low: 8, width: 1 };
 
 /// The transfer state, the only one that this card has (R1_STATE_TRAN in Linux).
 pub const TRAN: u32 = 4;
@@ -77,8 +77,8 @@ impl Status {
     pub fn word(self) -> u32
         ensures value { result ≡ status_word self.0 }
         ensures errors { bit_and result ERRORS ≡ bit_and self.0 ERRORS }
-        ensures state { part result CURRENT_STATE ≡ TRAN }
-        ensures ready { part result READY_FOR_DATA ≡ 1 }
+        ensures state { number_in result CURRENT_STATE ≡ TRAN }
+        ensures ready { number_in result READY_FOR_DATA ≡ 1 }
     {
         self.0 & ERRORS | IDLE
     }

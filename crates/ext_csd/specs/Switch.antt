@@ -1,21 +1,16 @@
 -- SWITCH (CMD6), the command that writes the extended CSD (JESD84-B51, sections 6.6 and 7.4).
 use Rattle.std.specs.Prelude.{ℕ, ◌-◌, ◌==◌, Bool, true, false, ◌&&◌, Option, Some, None, if◌then◌else◌, bit_and, bit_or, find, option_and_then}
 use Rattle.std.specs.Option.{option_map}
-use Rattle.cq_words.specs.Fields.{field_of}
+use Rattle.cq_words.specs.Table.{number_in}
 use Rattle.ext_csd.specs.declared.csd.ExtCsd.{ExtCsd}
 use Rattle.ext_csd.specs.declared.field.Field.{Field}
 use Rattle.ext_csd.specs.declared.field.Field.TheVariants.{CmdqModeEn, BarrierCtrl, FlushCache, CacheCtrl}
 use Rattle.ext_csd.specs.declared.field.TheConstants.Field.{ALL}
 use Rattle.ext_csd.specs.declared.switch.Change.{Change}
 use Rattle.ext_csd.specs.declared.switch.Change.TheVariants.{Plain, Flush, Barrier, CacheOff}
-use Rattle.ext_csd.specs.declared.switch.Place.{Place}
 use Rattle.ext_csd.specs.declared.switch.TheConstants.{ACCESS, INDEX, VALUE, SET_BITS, CLEAR_BITS, WRITE_BYTE}
 use Rattle.ext_csd.specs.Table.{row_of}
 use Rattle.ext_csd.specs.Values.{value_of}
-
--- what the argument has in a place
-abbrev pub part : ℕ → Place → ℕ
-part arg place = field_of arg place.low place.width
 
 -- the field that may be written and stands at an index
 unfoldable pub writable_at : ℕ → Option Field
@@ -56,5 +51,5 @@ accepted csd _ value = None
 unfoldable pub switched : ExtCsd → ℕ → Option Switched
 switched csd arg =
     option_and_then
-    (λ field. option_and_then (accepted csd field) (written (part arg ACCESS) (value_of csd field) (part arg VALUE)))
-    (writable_at (part arg INDEX))
+    (λ field. option_and_then (accepted csd field) (written (number_in arg ACCESS) (value_of csd field) (number_in arg VALUE)))
+    (writable_at (number_in arg INDEX))

@@ -1,9 +1,10 @@
 // The argument of a SWITCH, and what it writes.
-ghost use Rattle.std.specs.Prelude.{◌≡◌, ◌<◌, ◌≤◌, ◌+◌, ◌^◌};
-ghost use Rattle.ext_csd.specs.Switch.{part, writable_at, written};
+ghost use Rattle.std.specs.Prelude.{◌≡◌, ◌<◌, ◌≤◌, ◌^◌, IsTrue};
+ghost use Rattle.cq_words.specs.Table.{is_in_word, number_in};
+ghost use Rattle.ext_csd.specs.Switch.{writable_at, written};
 
 use crate::Field;
-use cq_words::bits;
+use cq_words::BitField;
 
 /// What a SWITCH that is not refused has the card do besides.
 #[derive(Clone, Copy, Debug, PartialEq, Eq)]
@@ -21,35 +22,28 @@ pub enum Change {
 #[derive(Clone, Copy, Debug, PartialEq, Eq)]
 pub struct SwitchError;
 
-/// A part of the argument: `width` bits from bit `low` up.
-#[derive(Clone, Copy)]
-pub struct Place {
-    pub low: u8,
-    pub width: u8,
-}
+/// How the new value is made of the old one.
+pub const ACCESS: BitField = BitField { low: 24, width: 2 };
 
-pub const ACCESS: Place = Place { low: 24, width: 2 };
+/// The index of the field.
+pub const INDEX: BitField = BitField { low: 16, width: 8 };
 
-pub const INDEX: Place = Place { low: 16, width: 8 };
+/// The value that is written, set or cleared.
+pub const VALUE: BitField = BitField { low: 8, width: 8 };
 
-pub const VALUE: Place = Place { low: 8, width: 8 };
-
-// The accesses; in Linux MMC_SWITCH_MODE_SET_BITS, MMC_SWITCH_MODE_CLEAR_BITS and MMC_SWITCH_MODE_WRITE_BYTE.
+/// The accesses; in Linux MMC_SWITCH_MODE_SET_BITS, MMC_SWITCH_MODE_CLEAR_BITS and MMC_SWITCH_MODE_WRITE_BYTE.
 pub const SET_BITS: u32 = 1;
-
 pub const CLEAR_BITS: u32 = 2;
-
 pub const WRITE_BYTE: u32 = 3;
 
-// What the argument has in a place.
-pub(crate) fn part_of(arg: u32, place: Place) -> u32
-    requires some { 1 ≤ place.width }
-    requires narrow { place.width ≤ 8 }
-    requires within { place.low + place.width ≤ 32 }
-    ensures value { result ≡ part arg place }
-    ensures fits { result < 2 ^ place.width }
+// What the argument has in one of these fields.
+pub(crate) fn part_of(arg: u32, field: BitField) -> u32
+    requires inside { IsTrue (is_in_word field) }
+    requires byte { field.width ≤ 8 }
+    ensures value { result ≡ number_in arg field }
+    ensures fits { result < 2 ^ field.width }
 {
-    bits(u64::from(arg), place.low, place.width) as u32
+    field.get(u64::from(arg)) as u32
 }
 
 // The field that may be written and stands at an index.
