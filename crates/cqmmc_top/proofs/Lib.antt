@@ -1,5 +1,5 @@
 pub mod Printing
+pub mod Reading
 pub mod Running
 pub mod Serving
-pub mod Showing
 pub mod Writing

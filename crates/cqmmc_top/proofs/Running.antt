@@ -10,12 +10,11 @@ use Rattle.storage_model.specs.declared.trace.End.{End}
 use Rattle.storage_model.specs.declared.trace.End.TheVariants.{Good, Fault, Dead}
 use Rattle.storage_model.specs.declared.trace.Item.TheVariants.{Card, Off}
 use Rattle.array_edge.specs.Array.{ArrayState}
-use Rattle.array_edge.specs.declared.array.ArrayEnd.{ArrayEnd}
-use Rattle.array_edge.specs.declared.array.ArrayEnd.TheVariants.{Failed, PowerLost}
+use Rattle.intent_store.specs.declared.ends.StoreEnd.{StoreEnd}
+use Rattle.intent_store.specs.declared.ends.StoreEnd.TheVariants.{Flash, PowerLost}
 use Rattle.io_edge.specs.Sink.{TookPart, Joins}
 use Rattle.trace_text.specs.Trace.{item_text}
 use Rattle.cqmmc_top.proofs.Printing.{one, and_then, fails_one, served_then, served_one, served_err}
-use Rattle.cqmmc_top.specs.Opened.{IsOpen, shown}
 use Rattle.cqmmc_top.specs.Print.{PrintsLine, Prints, Served, EndsLine}
 use Rattle.cqmmc_top.specs.Serial.{Serial, ToIssue, Over, Line, after_job, after_jobs, issuing, ended, start, IsNear}
 
@@ -25,17 +24,6 @@ after_jobs-push blocks base (j ∷ jobs) job = after_jobs-push blocks (after_job
 
 pub after_next : (blocks base : List Block) (jobs : List Job) (i : ℕ) (d : Job) → i < length jobs → after_jobs blocks base (take (i + 1) jobs) ≡ after_job blocks (after_jobs blocks base (take i jobs)) (get_or jobs i d)
 after_next blocks base jobs i d below = ap (after_jobs blocks base) (take_more jobs i d below) ∙ after_jobs-push blocks base (take i jobs) (get_or jobs i d)
-
--- as many sectors are shown as the image has
-pub shown_length : (sectors : ℕ) (array : ArrayState) (base : List Block) → IsOpen sectors array → IfSome array.told (λ pages. length pages ≡ array.count) → shown sectors array ≡ Some base → length base ≡ sectors
-shown_length sectors array base is_open counts is = go array.told counts is
-  where
-    go : (told : Option (List Block)) → IfSome told (λ pages. length pages ≡ array.count) → option_map (λ pages. take sectors (drop 8 pages)) told ≡ Some base → length base ≡ sectors
-    go None counts is = absurd (cc (is))
-    go (Some pages) counts is =
-        let same : take sectors (drop 8 pages) ≡ base = cc (is) in
-        let room : 8 + sectors ≤ length pages = omega (arith, is_open.room, counts) in
-        ap length (sym same) ∙ (length-take sectors (drop 8 pages) ∙ omega (arith, length-drop 8 pages))
 
 module _ {K : Type 0} (took : K → List ℕ → K → Type 0) (both : Joins took) (blocks : List Block) where
   pub err_any : (old new : K) (s t u : Serial) (halt : Halt) (after : Option (List Block)) → Served took blocks old s (Err halt) after new t → Served took blocks old s (Err halt) after new u
@@ -107,9 +95,9 @@ module _ {K : Type 0} (took : K → List ℕ → K → Type 0) (both : Joins too
     ended_well old new result printed = let same : IsSomeAnd after (λ contents. contents ≡ base) = rw shows refl in
         served_one took both blocks old new (issuing base id []) (ended base id) (Off Good) result after (refl, refl) printed same
 
-    pub ended_badly : (old new : K) (why : ArrayEnd) (result : Result (Unit {0}) Halt) (t : Serial) → EndsLine took old why result new → Served took blocks old (issuing base id []) result after new t
+    pub ended_badly : (old new : K) (why : StoreEnd) (result : Result (Unit {0}) Halt) (t : Serial) → EndsLine took old why result new → Served took blocks old (issuing base id []) result after new t
     ended_badly old new why (Ok done) t ends = absurd ends
-    ended_badly old new Failed (Err SinkFailed) t ends = fails_one took both blocks old new (issuing base id []) (record (issuing base id []) { due = Over Fault }) (Off Fault) after (refl, refl) ends (near Fault)
+    ended_badly old new Flash (Err SinkFailed) t ends = fails_one took both blocks old new (issuing base id []) (record (issuing base id []) { due = Over Fault }) (Off Fault) after (refl, refl) ends (near Fault)
     ended_badly old new PowerLost (Err SinkFailed) t ends = fails_one took both blocks old new (issuing base id []) (record (issuing base id []) { due = Over Dead }) (Off Dead) after (refl, refl) ends (near Dead)
     ended_badly old new why (Err OpenFault) t ends = record {
       state = record (issuing base id []) { due = Over Fault };

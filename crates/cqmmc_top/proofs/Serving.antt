@@ -12,8 +12,8 @@ use Rattle.storage_model.specs.declared.trace.End.{End}
 use Rattle.storage_model.specs.declared.trace.End.TheVariants.{Good, Fault, Dead, Image}
 use Rattle.storage_model.specs.declared.trace.Item.{Item}
 use Rattle.storage_model.specs.declared.trace.Item.TheVariants.{Issue, Phase, Done, Read, Sector, Off}
-use Rattle.array_edge.specs.declared.array.ArrayEnd.{ArrayEnd}
-use Rattle.array_edge.specs.declared.array.ArrayEnd.TheVariants.{Failed, PowerLost}
+use Rattle.intent_store.specs.declared.ends.StoreEnd.{StoreEnd}
+use Rattle.intent_store.specs.declared.ends.StoreEnd.TheVariants.{Flash, PowerLost}
 use Rattle.io_edge.specs.Sink.{TookPart, Joins}
 use Rattle.trace_text.specs.Trace.{item_text}
 use Rattle.cqmmc_top.proofs.Printing.{one, and_then, fails_one, stops_then, served_then, served_one, served_err, near_same}
@@ -55,14 +55,14 @@ module _ {K : Type 0} (took : K → List ℕ → K → Type 0) (both : Joins too
     pub phase_cut : (old new : K) (halt : Halt) → PrintsLine took old (Phase id id count false) (Err halt) new → Served took blocks old (moving base id (job ∷ jobs)) (Err halt) after new t
     phase_cut old new halt part = served_err took both blocks old new (moving base id (job ∷ jobs)) (broken job jobs count) t (Phase id id count false) halt after broken_line part near
 
-    pub phase_broken : (old mid new : K) (why : ArrayEnd) (result : Result (Unit {0}) Halt) → took old (item_text (Phase id id count false)) mid → EndsLine took mid why result new
+    pub phase_broken : (old mid new : K) (why : StoreEnd) (result : Result (Unit {0}) Halt) → took old (item_text (Phase id id count false)) mid → EndsLine took mid why result new
         → Served took blocks old (moving base id (job ∷ jobs)) result after new t
     phase_broken old mid new why result phase ends =
         served_then took both blocks old mid new (moving base id (job ∷ jobs)) (broken job jobs count) t result after (one took both blocks old mid (moving base id (job ∷ jobs)) (broken job jobs count) (Phase id id count false) broken_line phase) (off mid new why result ends)
       where
-        off : (mid new : K) (why : ArrayEnd) (result : Result (Unit {0}) Halt) → EndsLine took mid why result new → Served took blocks mid (broken job jobs count) result after new t
+        off : (mid new : K) (why : StoreEnd) (result : Result (Unit {0}) Halt) → EndsLine took mid why result new → Served took blocks mid (broken job jobs count) result after new t
         off mid new why (Ok done) ends = absurd ends
-        off mid new Failed (Err SinkFailed) ends = fails_one took both blocks mid new (broken job jobs count) (record (broken job jobs count) { due = Over Fault }) (Off Fault) after (tt, refl) ends near
+        off mid new Flash (Err SinkFailed) ends = fails_one took both blocks mid new (broken job jobs count) (record (broken job jobs count) { due = Over Fault }) (Off Fault) after (tt, refl) ends near
         off mid new PowerLost (Err SinkFailed) ends = fails_one took both blocks mid new (broken job jobs count) (record (broken job jobs count) { due = Over Dead }) (Off Dead) after (tt, refl) ends near
         off mid new why (Err OpenFault) ends = record {
           state = record (broken job jobs count) { due = Over Fault };

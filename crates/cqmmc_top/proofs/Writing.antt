@@ -10,7 +10,7 @@ use Rattle.storage_model.specs.Plan.{block_at}
 use Rattle.storage_model.specs.declared.block.Block.{Block}
 use Rattle.storage_model.specs.declared.plan.Fill.{Fill}
 use Rattle.array_edge.specs.Array.{ArrayState, IsTorn, page_at, with_page}
-use Rattle.cqmmc_top.specs.Opened.{shown}
+use Rattle.intent_store.specs.Intent.{shown_by}
 use Rattle.cqmmc_top.specs.Moves.{Wrote, WroteSome}
 use Rattle.cqmmc_top.specs.Serial.{put_blocks, fill_blocks, next_fill, IsNearBase, IsTornAt}
 
@@ -28,18 +28,18 @@ module _ (blocks : List Block) (fill : Fill) (first : ℕ) where
       ap (put_blocks base first) more ∙ put_last (fill_blocks blocks fill count) base first (block_at blocks fill count)
       ∙ ap (λ k. set (put_blocks base first (fill_blocks blocks fill count)) (first + k) (block_at blocks fill count)) long
 
-  pub wrote_more : (sectors : ℕ) (old mid new : ArrayState) (count : ℕ) (block : Block) → Wrote sectors old first blocks fill count mid → block ≡ block_at blocks fill count
-      → shown sectors new ≡ with_page (shown sectors mid) (first + count) block → Wrote sectors old first blocks fill (count + 1) new
-  wrote_more sectors old mid new count block wrote is more = go (shown sectors old) (shown sectors mid) (shown sectors new) wrote more
+  pub wrote_more : (old mid new : ArrayState) (count : ℕ) (block : Block) → Wrote old first blocks fill count mid → block ≡ block_at blocks fill count
+      → shown_by new ≡ with_page (shown_by mid) (first + count) block → Wrote old first blocks fill (count + 1) new
+  wrote_more old mid new count block wrote is more = go (shown_by old) (shown_by mid) (shown_by new) wrote more
     where
       go : (was then now : Option (List Block)) → then ≡ option_map (λ base. put_blocks base first (fill_blocks blocks fill count)) was → now ≡ with_page then (first + count) block
           → now ≡ option_map (λ base. put_blocks base first (fill_blocks blocks fill (count + 1))) was
       go None then now w m = m ∙ ap (λ t. with_page t (first + count) block) w
       go (Some base) then now w m = m ∙ ap (λ t. with_page t (first + count) block) w ∙ ap Some (ap (λ b. set (put_blocks base first (fill_blocks blocks fill count)) (first + count) b) is ∙ sym (put_more base count))
 
-  pub wrote_some : (sectors : ℕ) (old mid new : ArrayState) (all count : ℕ) (block : Block) → count < all → Wrote sectors old first blocks fill count mid → block ≡ block_at blocks fill count
-      → IsTorn (shown sectors mid) (first + count) block (shown sectors new) → WroteSome sectors old first blocks fill all count new
-  wrote_some sectors old mid new all count block fewer wrote is torn = record { fewer = omega arith; near = go (shown sectors old) (shown sectors mid) (shown sectors new) wrote torn }
+  pub wrote_some : (old mid new : ArrayState) (all count : ℕ) (block : Block) → count < all → Wrote old first blocks fill count mid → block ≡ block_at blocks fill count
+      → IsTorn (shown_by mid) (first + count) block (shown_by new) → WroteSome old first blocks fill all count new
+  wrote_some old mid new all count block fewer wrote is torn = record { fewer = omega arith; near = go (shown_by old) (shown_by mid) (shown_by new) wrote torn }
     where
       next_is : next_fill blocks first fill all count ≡ Some (first + count, block)
       next_is = let below : nat_lt count all ≡ true = grind (arith, nat_tests) in rw (below, is)

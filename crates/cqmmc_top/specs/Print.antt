@@ -10,8 +10,8 @@ use Rattle.storage_model.specs.declared.trace.End.{End}
 use Rattle.storage_model.specs.declared.trace.End.TheVariants.{Good, Fault, Dead, Image}
 use Rattle.storage_model.specs.declared.trace.Item.{Item}
 use Rattle.storage_model.specs.declared.trace.Item.TheVariants.{Off}
-use Rattle.array_edge.specs.declared.array.ArrayEnd.{ArrayEnd}
-use Rattle.array_edge.specs.declared.array.ArrayEnd.TheVariants.{Failed, PowerLost}
+use Rattle.intent_store.specs.declared.ends.StoreEnd.{StoreEnd}
+use Rattle.intent_store.specs.declared.ends.StoreEnd.TheVariants.{Flash as FlashEnd, PowerLost}
 use Rattle.array_edge.specs.Array.{ArrayState}
 use Rattle.io_edge.specs.Sink.{TookPart}
 use Rattle.trace_text.specs.Trace.{item_text, items_text}
@@ -63,14 +63,14 @@ module _ {K : Type 0} (took : K → List ℕ → K → Type 0) (blocks : List Bl
   Served old s (Err BadImage) shown new t = ⊥
 
 -- the `off` line of a failure of the array was taken, or the sink failed within it
-abbrev pub off_end : ArrayEnd → End
-off_end Failed = Fault
+abbrev pub off_end : StoreEnd → End
+off_end FlashEnd = Fault
 off_end PowerLost = Dead
 
-abbrev pub EndsLine : {K : Type 0} → (K → List ℕ → K → Type 0) → K → ArrayEnd → Result (Unit {0}) Halt → K → Type 0
+abbrev pub EndsLine : {K : Type 0} → (K → List ℕ → K → Type 0) → K → StoreEnd → Result (Unit {0}) Halt → K → Type 0
 EndsLine took old why (Ok done) new = ⊥
 EndsLine took old why (Err SinkFailed) new = TookPart took old (item_text (Off (off_end why))) new
-EndsLine took old why (Err OpenFault) new = took old (item_text (Off Fault)) new × (why ≡ Failed)
+EndsLine took old why (Err OpenFault) new = took old (item_text (Off Fault)) new × (why ≡ FlashEnd)
 EndsLine took old why (Err PowerGone) new = took old (item_text (Off Dead)) new × (why ≡ PowerLost)
 EndsLine took old why (Err BadImage) new = ⊥
 
@@ -80,11 +80,11 @@ pub record IsSinkCause (old new : Count) (result : Result (Unit {0}) Halt) : Typ
   pub cause : IfErr result (λ halt. (halt ≡ SinkFailed) × Rose old new)
 
 -- the run ends as the array did, or the sink failed
-abbrev pub IsHaltOf : ArrayEnd → Halt → Type 0
-IsHaltOf Failed halt = halt ≡ OpenFault
+abbrev pub IsHaltOf : StoreEnd → Halt → Type 0
+IsHaltOf FlashEnd halt = halt ≡ OpenFault
 IsHaltOf PowerLost halt = halt ≡ PowerGone
 
-pub record IsHalt (why : ArrayEnd) (old new : Count) (result : Result (Unit {0}) Halt) : Type 0 where
+pub record IsHalt (why : StoreEnd) (old new : Count) (result : Result (Unit {0}) Halt) : Type 0 where
   pub later : Later old new
   pub cause : IsErrAnd result (λ halt. IsHaltOf why halt ⊎ ((halt ≡ SinkFailed) × Rose old new))
 

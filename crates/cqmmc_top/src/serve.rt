@@ -6,14 +6,15 @@ ghost use Rattle.storage_model.specs.declared.block.Block.{Block as Contents};
 ghost use Rattle.storage_model.specs.declared.plan.Fill.{Fill as FillOf};
 ghost use Rattle.storage_model.specs.declared.plan.Job.{Job as Request};
 ghost use Rattle.storage_model.specs.declared.plan.Job.TheVariants.{Read as ReadJob, Write as WriteJob};
-ghost use Rattle.cqmmc_top.specs.Opened.{IsOpen, shown};
+ghost use Rattle.intent_store.specs.Intent.{shown_by};
+ghost use Rattle.cqmmc_top.specs.Opened.{IsOpen};
 ghost use Rattle.cqmmc_top.specs.Print.{HasCause, Served, IsHalt, IsSinkCause, EndsLine};
 ghost use Rattle.cqmmc_top.specs.Serial.{Serial, showing, answered, issuing, moving, sectors_at, moved, next_put, after_job, IsBroken, IsNearBase, IsPlain};
 
-use crate::image::Image;
 use crate::moves::{Broken, read_all, write_all};
 use crate::print::print;
-use array_edge::{Array, ArrayEnd};
+use array_edge::Array;
+use intent_store::{Intent, StoreEnd};
 use io_edge::Sink;
 use storage_model::{Block, End, Fill, Halt, Item, Job, Plan};
 
@@ -22,31 +23,32 @@ pub fn serve<A: Array, K: Sink>(
     id: u32,
     job: &Job,
     plan: &Plan,
-    image: &Image,
+    intent: &mut Intent,
     buffer: &mut [Block],
     array: &mut A,
     out: &mut K,
 ) -> Result<(), Halt>
     requires valid { IsValidJob plan.now.blocks job.now }
-    requires plain { IsPlain image.now.sectors job.now }
+    requires plain { IsPlain intent.old.sectors job.now }
     requires room { blocks_of job.now ≤ length buffer.old }
-    requires open { IsOpen image.now.sectors (A.state array.old) }
-    ensures served { (base : List Contents) (jobs : List Request) → shown image.now.sectors (A.state array.old) ≡ Some base → Served K.took plan.now.blocks out.old (issuing base id (job.now ∷ jobs)) result (shown image.now.sectors (A.state array.new)) out.new (issuing (after_job plan.now.blocks base job.now) (id + 1) jobs) }
-    ensures open { OnOk result (IsOpen image.now.sectors (A.state array.new)) }
+    requires open { IsOpen intent.old (A.state array.old) }
+    ensures served { (base : List Contents) (jobs : List Request) → shown_by (A.state array.old) ≡ Some base → Served K.took plan.now.blocks out.old (issuing base id (job.now ∷ jobs)) result (shown_by (A.state array.new)) out.new (issuing (after_job plan.now.blocks base job.now) (id + 1) jobs) }
+    ensures sectors { intent.new.sectors ≡ intent.old.sectors }
+    ensures open { OnOk result (IsOpen intent.new (A.state array.new)) }
     ensures cause { HasCause (K.faults out.old) (K.faults out.new) (A.state array.old) (A.state array.new) result }
 {
     print(&Item::Issue { id, tag: 0 }, out)?;
     match job {
         Job::Read { sector, blocks, .. } => {
             let values = &mut buffer[..usize::from(*blocks)];
-            serve_read(id, *sector, values, image, array, out)
+            serve_read(id, *sector, values, intent, array, out)
         }
         Job::Write {
             sector,
             blocks,
             fill,
             ..
-        } => serve_write(id, *sector, *blocks, *fill, plan, image, array, out),
+        } => serve_write(id, *sector, *blocks, *fill, plan, intent, array, out),
         Job::Flush | Job::Barrier | Job::Status => unreachable!(),
     }
 }
@@ -55,18 +57,19 @@ fn serve_read<A: Array, K: Sink>(
     id: u32,
     first: u32,
     values: &mut [Block],
-    image: &Image,
+    intent: &mut Intent,
     array: &mut A,
     out: &mut K,
 ) -> Result<(), Halt>
     requires few { length values.old ≤ 1024 }
-    requires inside { first + length values.old ≤ image.now.sectors }
-    requires open { IsOpen image.now.sectors (A.state array.old) }
-    ensures served { (blocks base : List Contents) (high : Bool) (jobs : List Request) → shown image.now.sectors (A.state array.old) ≡ Some base → Served K.took blocks out.old (moving base id (ReadJob first (length values.old) high ∷ jobs)) result (shown image.now.sectors (A.state array.new)) out.new (issuing base (id + 1) jobs) }
-    ensures open { OnOk result (IsOpen image.now.sectors (A.state array.new)) }
+    requires inside { first + length values.old ≤ intent.old.sectors }
+    requires open { IsOpen intent.old (A.state array.old) }
+    ensures served { (blocks base : List Contents) (high : Bool) (jobs : List Request) → shown_by (A.state array.old) ≡ Some base → Served K.took blocks out.old (moving base id (ReadJob first (length values.old) high ∷ jobs)) result (shown_by (A.state array.new)) out.new (issuing base (id + 1) jobs) }
+    ensures sectors { intent.new.sectors ≡ intent.old.sectors }
+    ensures open { OnOk result (IsOpen intent.new (A.state array.new)) }
     ensures cause { HasCause (K.faults out.old) (K.faults out.new) (A.state array.old) (A.state array.new) result }
 {
-    match read_all(image, first, values, array) {
+    match read_all(intent, first, values, array) {
         Ok(()) => answer_read(id, values, out),
         Err(broken) => break_off(id, broken, out),
     }
@@ -78,19 +81,20 @@ fn serve_write<A: Array, K: Sink>(
     count: u16,
     fill: Fill,
     plan: &Plan,
-    image: &Image,
+    intent: &mut Intent,
     array: &mut A,
     out: &mut K,
 ) -> Result<(), Halt>
     requires listed { IsFillListed plan.now.blocks fill count }
     requires few { count ≤ 1024 }
-    requires inside { first + count ≤ image.now.sectors }
-    requires open { IsOpen image.now.sectors (A.state array.old) }
-    ensures served { (base : List Contents) (forced reliable high : Bool) (jobs : List Request) → shown image.now.sectors (A.state array.old) ≡ Some base → Served K.took plan.now.blocks out.old (moving base id (WriteJob first count fill forced reliable high ∷ jobs)) result (shown image.now.sectors (A.state array.new)) out.new (issuing (moved plan.now.blocks base (WriteJob first count fill forced reliable high) count) (id + 1) jobs) }
-    ensures open { OnOk result (IsOpen image.now.sectors (A.state array.new)) }
+    requires inside { first + count ≤ intent.old.sectors }
+    requires open { IsOpen intent.old (A.state array.old) }
+    ensures served { (base : List Contents) (forced reliable high : Bool) (jobs : List Request) → shown_by (A.state array.old) ≡ Some base → Served K.took plan.now.blocks out.old (moving base id (WriteJob first count fill forced reliable high ∷ jobs)) result (shown_by (A.state array.new)) out.new (issuing (moved plan.now.blocks base (WriteJob first count fill forced reliable high) count) (id + 1) jobs) }
+    ensures sectors { intent.new.sectors ≡ intent.old.sectors }
+    ensures open { OnOk result (IsOpen intent.new (A.state array.new)) }
     ensures cause { HasCause (K.faults out.old) (K.faults out.new) (A.state array.old) (A.state array.new) result }
 {
-    match write_all(image, first, count, fill, plan, array) {
+    match write_all(intent, first, count, fill, plan, array) {
         Ok(()) => answer_write(id, count, out),
         Err(broken) => break_off(id, broken, out),
     }
@@ -161,13 +165,13 @@ fn break_off<K: Sink>(id: u32, broken: Broken, out: &mut K) -> Result<(), Halt>
 }
 
 /// The last line after a failure of the array.
-pub fn end<K: Sink>(why: ArrayEnd, out: &mut K) -> Result<(), Halt>
+pub fn end<K: Sink>(why: StoreEnd, out: &mut K) -> Result<(), Halt>
     ensures line { EndsLine K.took out.old why result out.new }
     ensures why { IsHalt why (K.faults out.old) (K.faults out.new) result }
 {
     let (end, halt) = match why {
-        ArrayEnd::Failed => (End::Fault, Halt::OpenFault),
-        ArrayEnd::PowerLost => (End::Dead, Halt::PowerGone),
+        StoreEnd::Flash => (End::Fault, Halt::OpenFault),
+        StoreEnd::PowerLost => (End::Dead, Halt::PowerGone),
     };
     print(&Item::Off { end }, out)?;
     Err(halt)

@@ -1,6 +1,4 @@
-use Rattle.std.proofs.Common.{◌≡◌, Some, ◌∙◌, ap}
 use Rattle.io_edge.specs.Sink.{Joins}
-use Rattle.cqmmc_top.specs.Opened.{shown}
 use Rattle.cqmmc_top.proofs.Running.{ended_well, ended_badly}
 use Rattle.cqmmc_top.proofs.run.finish.Goals as goal
 

@@ -9,6 +9,7 @@ use Rattle.cqmmc_top.proofs.run.serve_jobs.Goals as goal
 
 pub loop-place-init : goal.loop-place-init
 loop-place-init g c = record {
+  sectors = refl;
   is_open = c.requires.open;
   printed = λ base is. nothing_printed g.K.Sink.took g.met.K.Sink.took_nothing c.args.plan.now.blocks c.args.out.now (issuing base 1 c.args.plan.now.jobs);
   shows = λ base is. is;
@@ -34,6 +35,7 @@ loop-place-preserved g c =
     let blocks = c.args.plan.now.blocks in
     let jobs = c.args.plan.now.jobs in
     record {
+      sectors = grind (arith, common_steps);
       is_open = c.in_ok-serve.ensures.open;
       printed = λ base is.
           next_printed g.K.Sink.took both blocks base jobs c.as_slice-jobs.result.now c.loop-place.invariant.jobs c.loop-place.place _ c.loop-place-test.true c.args.out.now c.loop-place.out c.serve.new.out None
