@@ -1,4 +1,6 @@
 pub mod Moves
 pub mod Opened
 pub mod Print
+pub mod Refusal
 pub mod Serial
+pub mod Texts

@@ -2,6 +2,9 @@
 #![tactic(auto)]
 
 mod moves;
+mod opening;
 mod print;
+mod refusal;
 mod run;
 mod serve;
+mod texts;
