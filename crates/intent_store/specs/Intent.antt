@@ -1,5 +1,5 @@
 -- What an intent store knows of an image, what an array shows through it, and how its calls end.
-use Rattle.std.specs.Prelude.{◌≡◌, ◌⊎◌, ◌≤◌, ℕ, ◌+◌, ◌==◌, true, false, List, Option, Some, None, IfSome, Result, Ok, Err, IsErrOf, OnOk, option_map, slice_set, if◌then◌else◌}
+use Rattle.std.specs.Prelude.{◌≡◌, ◌⊎◌, ◌≤◌, ℕ, ◌+◌, ◌==◌, true, false, List, Option, Some, None, IfSome, MatchOption, Result, Ok, Err, IsErrOf, OnOk, option_map, slice_set, if◌then◌else◌}
 use Rattle.std.specs.Option.{ForSome}
 use Rattle.storage_model.specs.Count.{Later, Rose}
 use Rattle.storage_model.specs.Granule.{IsMix}
@@ -9,6 +9,8 @@ use Rattle.image_form.specs.declared.gate.Gate.{Gate}
 use Rattle.image_form.specs.declared.gate.Gate.TheVariants.{Shut, Ajar}
 use Rattle.image_form.specs.Form.{IsSuper, IsGate, gate_number}
 use Rattle.image_form.specs.Image.{IsImage, sectors_of, gate_at, shown, page_at}
+use Rattle.intent_store.specs.declared.ends.StartEnd.{StartEnd}
+use Rattle.intent_store.specs.declared.ends.StartEnd.TheVariants.{Flash as StartFlash, PowerLost as StartPowerLost, BadImage}
 use Rattle.intent_store.specs.declared.ends.StoreEnd.{StoreEnd}
 use Rattle.intent_store.specs.declared.ends.StoreEnd.TheVariants.{Flash, PowerLost}
 
@@ -47,6 +49,30 @@ pub record StoreEnds {T : Type 0} (old new : ArrayState) (result : Result T Stor
   pub flash : IsErrOf result Flash → Rose old.faults new.faults × (old.powered ≡ true) × (new.powered ≡ true)
   pub lost : IsErrOf result PowerLost → (Rose old.cuts new.cuts ⊎ (old.powered ≡ false)) × (new.powered ≡ false)
 
+-- an opening hands on why a call of it ended
+abbrev pub start_end : StoreEnd → StartEnd
+start_end Flash = StartFlash
+start_end PowerLost = StartPowerLost
+
+-- How an opening ends. It begins with the power on. Counts don't fall, and `Flash` and `PowerLost` are told only where
+-- the array failed or was cut in this call.
+pub record StartEnds {T : Type 0} (old new : ArrayState) (result : Result T StartEnd) : Type 0 where
+  pub count : new.count ≡ old.count
+  pub faults : Later old.faults new.faults
+  pub cuts : Later old.cuts new.cuts
+  pub ok : OnOk result (new.powered ≡ true)
+  pub flash : IsErrOf result StartFlash → Rose old.faults new.faults × (new.powered ≡ true)
+  pub lost : IsErrOf result StartPowerLost → Rose old.cuts new.cuts × (new.powered ≡ false)
+  pub bad : IsErrOf result BadImage → new.powered ≡ true
+
+-- the array shows an image, where it tells its pages
+abbrev pub ShowsImage : ArrayState → Type 0
+ShowsImage array = IfSome array.told IsImage
+
+-- the pages are told, and are no image
+abbrev pub IsNoImage : ArrayState → Type 0
+IsNoImage array = IfSome array.told (λ pages. IsImage pages → ⊥)
+
 -- with the power off nothing is done
 abbrev pub IsRefusedOff : ArrayState → ArrayState → Result (Unit {0}) StoreEnd → Type 0
 IsRefusedOff old new result = old.powered ≡ false → (result ≡ Err PowerLost) × (new ≡ old)
@@ -81,8 +107,8 @@ with_intent told sector = option_map (λ pages. slice_set (shown pages) sector (
 abbrev pub intent_by : ArrayState → Option Block
 intent_by array = option_map (λ pages. page_at pages 2) array.told
 
--- two pages are superblock and gate of an image, for which there are enough pages
+-- Two pages are the superblock and the gate of an image of which this is known, and there are enough pages.
 pub record IsOpening (first second : Block) (count : ℕ) (known : Known) : Type 0 where
   pub superblock : IsSuper first (record { version = 1; sectors = known.sectors })
-  pub gate : IfSome known.gate (IsGate second known.sectors)
+  pub gate : MatchOption known.gate ⊥ (IsGate second known.sectors)
   pub room : 8 + known.sectors ≤ count

@@ -1,8 +1,10 @@
-ghost use Rattle.std.specs.Prelude.{◌≡◌, ◌⊎◌, ◌≤◌, ◌<◌, ◌+◌, false, Some, IsSome, IfSome, IfOk, OnOk, OnErr};
+ghost use Rattle.std.specs.Prelude.{◌≡◌, ◌⊎◌, ◌≤◌, ◌<◌, ◌+◌, true, false, Some, Err, IsErrOf, IsNone, IsSome, IfSome, IfOk, OnOk, OnErr};
 ghost use Rattle.array_edge.specs.Array.{ArrayState, HasPage, IsTorn, with_page};
 ghost use Rattle.image_form.specs.Form.{gate_number, gate_head, page_of};
 ghost use Rattle.image_form.specs.declared.gate.Gate.TheVariants.{Shut, Ajar};
-ghost use Rattle.intent_store.specs.Intent.{Known, IntentStands, StoreEnds, IsRefusedOff, IsWritten, IsMoved, after_gate, place_of, shown_by, intent_by, with_intent};
+ghost use Rattle.image_form.specs.Image.{gate_at};
+ghost use Rattle.intent_store.specs.declared.ends.StartEnd.TheVariants.{BadImage};
+ghost use Rattle.intent_store.specs.Intent.{Known, IntentStands, IsNoImage, IsOpening, ShowsImage, StartEnds, StoreEnds, IsRefusedOff, IsWritten, IsMoved, after_gate, place_of, shown_by, intent_by, with_intent};
 
 use crate::pages::{fetch, program};
 use crate::{StartEnd, StoreEnd};
@@ -29,6 +31,46 @@ impl Model for Intent {
 }
 
 impl Intent {
+    /// Opens an image: switches the array on, fetches page 0 and page 1, and where the gate is ajar for a sector, fetches
+    /// the intent page, programs the sector with it and programs the gate shut. `BadImage` comes where the first two pages
+    /// are no superblock and gate or the array has fewer than 8 + sectors pages; of fewer than 2 pages none is fetched.
+    /// An opening that was cut may begin again.
+    pub fn start<A: Array>(array: &mut A) -> Result<Intent, StartEnd>
+        ensures stands { IfOk result (λ intent. IntentStands intent (A.state array.new)) }
+        ensures shut { OnOk result (IfSome (A.state array.new).told (λ pages. gate_at pages ≡ Shut)) }
+        ensures image { OnOk result (ShowsImage (A.state array.old)) }
+        ensures bad { IsErrOf result BadImage → IsNoImage (A.state array.old) }
+        ensures bad_told { IsErrOf result BadImage → (A.state array.new).told ≡ (A.state array.old).told }
+        ensures few { (A.state array.old).count < 2 → (result ≡ Err BadImage) × (A.state array.new ≡ record (A.state array.old) { powered = true }) }
+        ensures shown { shown_by (A.state array.new) ≡ shown_by (A.state array.old) }
+        ensures kept { ShowsImage (A.state array.old) → ShowsImage (A.state array.new) }
+        ensures ends { StartEnds (A.state array.old) (A.state array.new) result }
+    {
+        array.power_on();
+        let mut intent = Intent::find(array)?;
+        intent.close(array)?;
+        Ok(intent)
+    }
+
+    // Fetches page 0 and page 1, and judges both.
+    fn find<A: Array>(array: &mut A) -> Result<Intent, StartEnd>
+        requires { (A.state array.old).powered ≡ true }
+        ensures stands { IfOk result (λ intent. IntentStands intent (A.state array.new)) }
+        ensures bad { IsErrOf result BadImage → IsNoImage (A.state array.old) }
+        ensures told { (A.state array.new).told ≡ (A.state array.old).told }
+        ensures few { (A.state array.old).count < 2 → (result ≡ Err BadImage) × (A.state array.new ≡ A.state array.old) }
+        ensures ends { StartEnds (A.state array.old) (A.state array.new) result }
+    {
+        if array.pages() < 2 {
+            return Err(StartEnd::BadImage);
+        }
+        let mut first = Block([0; 512]);
+        fetch(array, 0, &mut first)?;
+        let mut second = Block([0; 512]);
+        fetch(array, 1, &mut second)?;
+        judge(&first, &second, array.pages()).ok_or(StartEnd::BadImage)
+    }
+
     /// The number of sectors of the image.
     pub fn sectors(&self) -> u32
         ensures value { result ≡ self.now.sectors }
@@ -299,4 +341,20 @@ fn page_of(gate: Gate, sector: u32) -> u32
         Gate::Ajar(ajar) if ajar == sector => 2,
         _ => 8 + sector,
     }
+}
+
+// What page 0 and page 1 tell of an image on so many pages. None comes exactly where they are no image.
+fn judge(first: &Block, second: &Block, pages: u32) -> Option<Intent>
+    ensures some { IfSome result (IsOpening first.now second.now pages) }
+    ensures none { (known : Known) → IsOpening first.now second.now pages known → IsNone result → ⊥ }
+{
+    let found = read_super(first)?;
+    let gate = read_gate(second, found.sectors)?;
+    if pages < 8 + found.sectors {
+        return None;
+    }
+    Some(Intent {
+        sectors: found.sectors,
+        gate: Some(gate),
+    })
 }
