@@ -1,3 +1,4 @@
-mod Writes
-mod Steps
-mod Openings
+mod WriteLemmas
+mod StepLemmas
+mod OpeningLemmas
+mod CallLemmas

@@ -34,11 +34,6 @@ pub record IntentStands (known : Known) (array : ArrayState) : Type 0 where
   pub room : 8 + known.sectors ≤ array.count
   pub told : IfSome array.told (IsKnown known)
 
--- the page that a sector is read from
-abbrev pub place_of : Gate → ℕ → ℕ
-place_of Shut sector = 8 + sector
-place_of (Ajar ajar) sector = if ajar == sector then 2 else 8 + sector
-
 -- How a call of an intent store ends. Counts don't fall. `Flash` is told only where the array failed in this call,
 -- `PowerLost` only where the power was cut in this call or was off.
 pub record StoreEnds {T : Type 0} (old new : ArrayState) (result : Result T StoreEnd) : Type 0 where
@@ -69,46 +64,10 @@ pub record StartEnds {T : Type 0} (old new : ArrayState) (result : Result T Star
 abbrev pub ShowsImage : ArrayState → Type 0
 ShowsImage array = IfSome array.told IsImage
 
--- the pages are told, and are no image
+-- the pages, where they are told, are no image
 abbrev pub IsNoImage : ArrayState → Type 0
 IsNoImage array = IfSome array.told (λ pages. IsImage pages → ⊥)
 
 -- with the power off nothing is done
 abbrev pub IsRefusedOff : ArrayState → ArrayState → Result (Unit {0}) StoreEnd → Type 0
 IsRefusedOff old new result = old.powered ≡ false → (result ≡ Err PowerLost) × (new ≡ old)
-
--- A page was written: whole where the call ended well, and else each of its granules is old or new.
-pub record IsWritten (old : Option (List Block)) (page : ℕ) (block : Block) (new : Option (List Block)) (result : Result (Unit {0}) StoreEnd) : Type 0 where
-  pub left : Block
-  pub mix : IfSome old (λ pages. IsMix (page_at pages page) block left)
-  pub told : new ≡ with_page old page left
-  pub whole : OnOk result (left ≡ block)
-
--- what is known once the gate was programmed: it, or nothing where that failed
-abbrev pub after_gate : ℕ → Gate → Result (Unit {0}) StoreEnd → Known
-after_gate sectors gate (Ok done) = record { sectors = sectors; gate = Some gate }
-after_gate sectors gate (Err end) = record { sectors = sectors; gate = None }
-
--- the number of sectors and the gate are within the limits of an image
-pub record IsInRange (sectors : ℕ) (gate : Option Gate) : Type 0 where
-  pub some : 1 ≤ sectors
-  pub most : sectors ≤ 65536
-  pub within : ForSome gate (λ gate. gate_number gate ≤ sectors)
-
--- the page of the sector for which the gate is ajar is what the intent page is
-abbrev pub IsMoved : Option Gate → Option (List Block) → Type 0
-IsMoved (Some (Ajar sector)) told = IfSome told (λ pages. page_at pages (8 + sector) ≡ page_at pages 2)
-IsMoved _ told = Unit {0}
-
--- the sectors shown, with the intent page in place of one
-abbrev pub with_intent : Option (List Block) → ℕ → Option (List Block)
-with_intent told sector = option_map (λ pages. slice_set (shown pages) sector (page_at pages 2)) told
-
-abbrev pub intent_by : ArrayState → Option Block
-intent_by array = option_map (λ pages. page_at pages 2) array.told
-
--- Two pages are the superblock and the gate of an image of which this is known, and there are enough pages.
-pub record IsOpening (first second : Block) (count : ℕ) (known : Known) : Type 0 where
-  pub superblock : IsSuper first (record { version = 1; sectors = known.sectors })
-  pub gate : MatchOption known.gate ⊥ (IsGate second known.sectors)
-  pub room : 8 + known.sectors ≤ count

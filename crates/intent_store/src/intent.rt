@@ -1,10 +1,12 @@
-ghost use Rattle.std.specs.Prelude.{◌≡◌, ◌⊎◌, ◌≤◌, ◌<◌, ◌+◌, true, false, Some, Err, IsErrOf, IsNone, IsSome, IfSome, IfOk, OnOk, OnErr};
+ghost use Rattle.std.specs.Prelude.{◌≡◌, ◌⊎◌, ◌≤◌, ◌<◌, ◌+◌, true, false, [], ◌∷◌, is_ok, Some, Err, IsErrOf, IsNone, IsSome, IfSome, IfOk, OnOk, OnErr};
 ghost use Rattle.array_edge.specs.Array.{ArrayState, HasPage, IsTorn, with_page};
 ghost use Rattle.image_form.specs.Form.{gate_number, gate_head, page_of};
 ghost use Rattle.image_form.specs.declared.gate.Gate.TheVariants.{Shut, Ajar};
-ghost use Rattle.image_form.specs.Image.{gate_at};
+ghost use Rattle.image_form.specs.Image.{Fetch, Program, finishing, gate_at, opening};
 ghost use Rattle.intent_store.specs.declared.ends.StartEnd.TheVariants.{BadImage};
-ghost use Rattle.intent_store.specs.Intent.{Known, IntentStands, IsNoImage, IsOpening, ShowsImage, StartEnds, StoreEnds, IsRefusedOff, IsWritten, IsMoved, after_gate, place_of, shown_by, intent_by, with_intent};
+ghost use Rattle.intent_store.specs.Calls.{IsCall, Makes};
+ghost use Rattle.intent_store.specs.Intent.{Known, IntentStands, IsNoImage, ShowsImage, StartEnds, StoreEnds, IsRefusedOff, shown_by};
+ghost use Rattle.intent_store.specs.Steps.{IsOpening, IsWritten, IsMoved, after_gate, place_of, intent_by, with_intent};
 
 use crate::pages::{fetch, program};
 use crate::{StartEnd, StoreEnd};
@@ -21,7 +23,8 @@ pub struct Intent {
 }
 
 impl Model for Intent {
-    ghost use Rattle.intent_store.specs.Intent.{Known, IsInRange};
+    ghost use Rattle.intent_store.specs.Intent.{Known};
+    ghost use Rattle.intent_store.specs.Steps.{IsInRange};
 
     ghost Value = { Known };
 
@@ -81,7 +84,7 @@ impl Intent {
     }
 
     /// Reads a sector. It programs nothing.
-    #[tactic(auto, using(crate::proofs::Steps::read_place))]
+    #[tactic(auto, using(crate::proofs::StepLemmas::read_place))]
     pub fn read<A: Array>(
         &mut self,
         sector: u32,
@@ -102,7 +105,7 @@ impl Intent {
     }
 
     /// Programs a sector in place. After an error each granule of it is old or new. A gate that is ajar is finished before.
-    #[tactic(auto, using(crate::proofs::Steps::same_torn))]
+    #[tactic(auto, using(crate::proofs::StepLemmas::same_torn))]
     pub fn program<A: Array>(
         &mut self,
         sector: u32,
@@ -155,6 +158,7 @@ impl Intent {
         ensures told { (A.state array.new).told ≡ (A.state array.old).told }
         ensures ends { StoreEnds (A.state array.old) (A.state array.new) result }
         ensures off { (A.state array.old).powered ≡ false → A.state array.new ≡ A.state array.old }
+        ensures calls { IsSome self.old.gate → (IfOk result (λ gate. self.old.gate ≡ Some gate)) × (is_ok result ≡ true) × ((A.state array.new) ≡ (A.state array.old)) }
     {
         if let Some(gate) = self.gate {
             return Ok(gate);
@@ -174,6 +178,7 @@ impl Intent {
         ensures written { IsWritten (A.state array.old).told 1 (page_of (gate_head (gate_number gate))) (A.state array.new).told result }
         ensures ends { StoreEnds (A.state array.old) (A.state array.new) result }
         ensures off { IsRefusedOff (A.state array.old) (A.state array.new) result }
+        ensures calls { (A.state array.old).powered ≡ true → IsCall (Program 1) (A.state array.old) (A.state array.new) result }
     {
         prove!(self.sectors <= 65536);
         let done = program(array, 1, &write_gate(gate));
@@ -190,6 +195,7 @@ impl Intent {
         ensures shown { shown_by (A.state array.new) ≡ shown_by (A.state array.old) }
         ensures ends { StoreEnds (A.state array.old) (A.state array.new) result }
         ensures off { (A.state array.old).powered ≡ false → A.state array.new ≡ A.state array.old }
+        ensures calls { (gate : Gate) → self.old.gate ≡ Some gate → (A.state array.old).powered ≡ true → Makes (finishing gate) (A.state array.old) (A.state array.new) (is_ok result) }
     {
         match self.look(array)? {
             Gate::Shut => Ok(()),
@@ -208,6 +214,7 @@ impl Intent {
         ensures shown { shown_by (A.state array.new) ≡ shown_by (A.state array.old) }
         ensures ends { StoreEnds (A.state array.old) (A.state array.new) result }
         ensures off { IsRefusedOff (A.state array.old) (A.state array.new) result }
+        ensures calls { (A.state array.old).powered ≡ true → Makes (finishing (Ajar sector)) (A.state array.old) (A.state array.new) (is_ok result) }
     {
         let mut block = Block([0; 512]);
         fetch(array, 2, &mut block)?;
@@ -231,6 +238,7 @@ impl Intent {
         ensures shown { shown_by (A.state array.new) ≡ shown_by (A.state array.old) }
         ensures ends { StoreEnds (A.state array.old) (A.state array.new) result }
         ensures off { IsRefusedOff (A.state array.old) (A.state array.new) result }
+        ensures calls { (A.state array.old).powered ≡ true → Makes (Program (8 + sector) ∷ Program 1 ∷ []) (A.state array.old) (A.state array.new) (is_ok result) }
     {
         self.move_in(sector, block, array)?;
         self.shut(array)
@@ -247,6 +255,7 @@ impl Intent {
         ensures shown { shown_by (A.state array.new) ≡ shown_by (A.state array.old) }
         ensures ends { StoreEnds (A.state array.old) (A.state array.new) result }
         ensures off { IsRefusedOff (A.state array.old) (A.state array.new) result }
+        ensures calls { (A.state array.old).powered ≡ true → IsCall (Program (8 + sector)) (A.state array.old) (A.state array.new) result }
     {
         prove!(sector < self.sectors);
         program(array, 8 + sector, block)
@@ -263,12 +272,13 @@ impl Intent {
         ensures shown { shown_by (A.state array.new) ≡ shown_by (A.state array.old) }
         ensures ends { StoreEnds (A.state array.old) (A.state array.new) result }
         ensures off { IsRefusedOff (A.state array.old) (A.state array.new) result }
+        ensures calls { (A.state array.old).powered ≡ true → Makes (Program 1 ∷ []) (A.state array.old) (A.state array.new) (is_ok result) }
     {
         self.turn(Gate::Shut, array)
     }
 
     // Programs the intent page, and then the gate ajar for the sector.
-    #[tactic(auto, using(crate::proofs::Steps::intent_shown))]
+    #[tactic(auto, using(crate::proofs::StepLemmas::intent_shown))]
     fn offer<A: Array>(&mut self, sector: u32, block: &Block, array: &mut A) -> Result<(), StoreEnd>
         requires sector { sector < self.old.sectors }
         requires shut { self.old.gate ≡ Some Shut }

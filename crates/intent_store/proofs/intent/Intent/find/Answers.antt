@@ -3,8 +3,9 @@ use Rattle.std.specs.Prelude.{Option, IfSome, IsNone}
 use Rattle.array_edge.specs.Array.{HasPage}
 use Rattle.storage_model.specs.declared.block.Block.{Block}
 use Rattle.image_form.specs.Image.{IsImage}
-use Rattle.intent_store.specs.Intent.{Known, IsOpening}
-use Rattle.intent_store.proofs.Openings.{found_stands, found_bad}
+use Rattle.intent_store.specs.Intent.{Known}
+use Rattle.intent_store.specs.Steps.{IsOpening}
+use Rattle.intent_store.proofs.OpeningLemmas.{found_stands, found_bad}
 use Rattle.intent_store.proofs.intent.Intent.find.Goals as goal
 
 pub returns-clause-stands : goal.returns-clause-stands

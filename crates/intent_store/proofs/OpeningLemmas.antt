@@ -11,7 +11,8 @@ use Rattle.image_form.specs.Image.{page_at, sectors_of, gate_at, IsImage}
 use Rattle.image_form.proofs.Images.{sectors_of-IsSuper, gate_at-IsGate, IsImage-forms}
 use Rattle.intent_store.specs.declared.ends.StartEnd.{StartEnd}
 use Rattle.intent_store.specs.declared.ends.StartEnd.TheVariants.{BadImage}
-use Rattle.intent_store.specs.Intent.{Known, IsKnown, IntentStands, IsOpening, IsNoImage}
+use Rattle.intent_store.specs.Intent.{Known, IsKnown, IntentStands, IsNoImage}
+use Rattle.intent_store.specs.Steps.{IsOpening}
 
 is_super : (block block' : Block) (s : Super) → block ≡ block' → IsSuper block s → IsSuper block' s
 is_super block block' s e is = let P : Block → Type 0 = λ b. IsSuper b s in subst P e is
