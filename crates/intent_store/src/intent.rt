@@ -1,8 +1,8 @@
-ghost use Rattle.std.specs.Prelude.{◌≡◌, ◌⊎◌, ◌≤◌, ◌<◌, ◌+◌, true, false, [], ◌∷◌, is_ok, Some, Err, IsErrOf, IsNone, IsSome, IfSome, IfOk, OnOk, OnErr};
+ghost use Rattle.std.specs.Prelude.{◌≡◌, ◌⊎◌, ◌≤◌, ◌<◌, ◌+◌, true, false, [], ◌∷◌, is_ok, Bool, List, IsOk, IsErr, Some, Err, IsErrOf, IsNone, IsSome, IfSome, IfOk, OnOk, OnErr};
 ghost use Rattle.array_edge.specs.Array.{ArrayState, HasPage, IsTorn, with_page};
 ghost use Rattle.image_form.specs.Form.{gate_number, gate_head, page_of};
 ghost use Rattle.image_form.specs.declared.gate.Gate.TheVariants.{Shut, Ajar};
-ghost use Rattle.image_form.specs.Image.{Fetch, Program, finishing, gate_at, opening};
+ghost use Rattle.image_form.specs.Image.{PageCall, Fetch, IsImage, Program, finishing, gate_at, opening};
 ghost use Rattle.intent_store.specs.declared.ends.StartEnd.TheVariants.{BadImage};
 ghost use Rattle.intent_store.specs.Calls.{IsCall, Makes};
 ghost use Rattle.intent_store.specs.Intent.{Known, IntentStands, IsNoImage, ShowsImage, StartEnds, StoreEnds, IsRefusedOff, shown_by};
@@ -48,6 +48,7 @@ impl Intent {
         ensures shown { shown_by (A.state array.new) ≡ shown_by (A.state array.old) }
         ensures kept { ShowsImage (A.state array.old) → ShowsImage (A.state array.new) }
         ensures ends { StartEnds (A.state array.old) (A.state array.new) result }
+        ensures calls { IfSome (A.state array.old).told (λ pages. IsImage pages → Makes (opening (gate_at pages)) (record (A.state array.old) { powered = true }) (A.state array.new) (is_ok result)) }
     {
         array.power_on();
         let mut intent = Intent::find(array)?;
@@ -63,6 +64,9 @@ impl Intent {
         ensures told { (A.state array.new).told ≡ (A.state array.old).told }
         ensures few { (A.state array.old).count < 2 → (result ≡ Err BadImage) × (A.state array.new ≡ A.state array.old) }
         ensures ends { StartEnds (A.state array.old) (A.state array.new) result }
+        ensures known { IfOk result (λ intent. IsSome intent.gate) }
+        ensures calls { (rest : List PageCall) (last : ArrayState) (ok : Bool) → IsOk result → Makes rest (A.state array.new) last ok → Makes (Fetch 0 ∷ Fetch 1 ∷ rest) (A.state array.old) last ok }
+        ensures failed { (rest : List PageCall) → IsErr result → (IsErrOf result BadImage → ⊥) → Makes (Fetch 0 ∷ Fetch 1 ∷ rest) (A.state array.old) (A.state array.new) false }
     {
         if array.pages() < 2 {
             return Err(StartEnd::BadImage);

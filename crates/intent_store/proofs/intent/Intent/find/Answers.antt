@@ -1,5 +1,7 @@
-use Rattle.std.proofs.Common.{◌≡◌, ℕ, List, sym, subst, ◌∙◌}
-use Rattle.std.specs.Prelude.{Option, IfSome, IsNone}
+use Rattle.std.proofs.Common.{rules, refl, ap, ◌∷◌, ◌≡◌, ℕ, List, sym, subst, ◌∙◌}
+use Rattle.image_form.specs.Image.{Fetch}
+use Rattle.intent_store.proofs.CallLemmas.{ended_call, next_call}
+use Rattle.std.specs.Prelude.{is_ok, Option, IfSome, IsNone}
 use Rattle.array_edge.specs.Array.{HasPage}
 use Rattle.storage_model.specs.declared.block.Block.{Block}
 use Rattle.image_form.specs.Image.{IsImage}
@@ -30,3 +32,17 @@ returns-clause-bad g c bad =
     (g.met.A.Array.told_count c.fetch-2.new.array) (subst First (sym told) c.in_ok-fetch.ensures.read)
     (subst Second (sym c.in_ok-fetch-2.ensures.told) c.in_ok-fetch-2.ensures.read)
     (subst P c.pages-2.ensures c.judge.ensures.none) c.ok_or.ensures.value bad)
+
+pub returns-in_err-fetch-clause-failed : goal.returns-in_err-fetch-clause-failed
+returns-in_err-fetch-clause-failed g c rest err other =
+    ended_call (Fetch 0) (Fetch 1 ∷ rest) _ _ c.fetch.result _ (ap is_ok c.in_err-fetch.was) refl (c.fetch.ensures.call c.requires)
+
+pub returns-in_err-fetch-2-clause-failed : goal.returns-in_err-fetch-2-clause-failed
+returns-in_err-fetch-2-clause-failed g c rest err other =
+    next_call (Fetch 0) (Fetch 1 ∷ rest) _ _ _ c.fetch.result _ (ap is_ok c.in_ok-fetch.was) (c.fetch.ensures.call c.requires)
+    (ended_call (Fetch 1) rest _ _ c.fetch-2.result _ (ap is_ok c.in_err-fetch-2.was) refl (c.fetch-2.ensures.call (search rules)))
+
+pub returns-clause-calls : goal.returns-clause-calls
+returns-clause-calls g c rest last ok done made =
+    next_call (Fetch 0) (Fetch 1 ∷ rest) _ _ _ c.fetch.result _ (ap is_ok c.in_ok-fetch.was) (c.fetch.ensures.call c.requires)
+    (next_call (Fetch 1) rest _ _ _ c.fetch-2.result _ (ap is_ok c.in_ok-fetch-2.was) (c.fetch-2.ensures.call (search rules)) made)
