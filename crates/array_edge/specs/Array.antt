@@ -1,6 +1,6 @@
 -- What an array of flash pages stands for, and what its calls do to it.
-use Rattle.std.specs.Prelude.{◌≡◌, ◌⊎◌, ℕ, Bool, false, List, [], Option, IfSome, Result, Err, IsErrOf, OnOk, option_map, slice_index_or, slice_set}
-use Rattle.storage_model.specs.Count.{Count, Later, Rose}
+use Rattle.std.specs.Prelude.{◌≡◌, ◌⊎◌, ℕ, Bool, true, false, List, [], Option, IfSome, Result, Err, IsErrOf, OnOk, OnErr, option_map, slice_index_or, slice_set}
+use Rattle.storage_model.specs.Count.{Count, Later, RaisedByOne, Rose}
 use Rattle.storage_model.specs.Granule.{IsMix}
 use Rattle.storage_model.specs.declared.block.Block.{Block}
 use Rattle.array_edge.specs.declared.array.ArrayEnd.{ArrayEnd}
@@ -39,7 +39,29 @@ pub record IsTorn (old : Option (List Block)) (page : ℕ) (block : Block) (new 
 pub record Ends (old new : ArrayState) (result : Result (Unit {0}) ArrayEnd) : Type 0 where
   pub faults : Later old.faults new.faults
   pub cuts : Later old.cuts new.cuts
+  pub programs : Later old.programs new.programs
+  pub fetches : Later old.fetches new.fetches
   pub ok : OnOk result (new.powered ≡ old.powered)
   pub failed : IsErrOf result Failed → Rose old.faults new.faults × (new.powered ≡ old.powered)
   pub lost : IsErrOf result PowerLost → (Rose old.cuts new.cuts ⊎ (old.powered ≡ false)) × (new.powered ≡ false)
   pub off : old.powered ≡ false → (result ≡ Err PowerLost) × (new ≡ old)
+
+-- what a fetch does
+pub record Fetched (old : ArrayState) (page : ℕ) (block : Block) (new : ArrayState) (result : Result (Unit {0}) ArrayEnd) : Type 0 where
+  pub read : OnOk result (HasPage old.told page block)
+  pub same : new ≡ record old { faults = new.faults; fetches = new.fetches }
+  pub number : old.powered ≡ true → RaisedByOne old.fetches new.fetches
+  pub ends : Ends old new result
+
+-- what a program does
+pub record Programmed (old : ArrayState) (page : ℕ) (block : Block) (new : ArrayState) (result : Result (Unit {0}) ArrayEnd) : Type 0 where
+  pub written : OnOk result (new.told ≡ with_page old.told page block)
+  pub torn : OnErr result (IsTorn old.told page block new.told)
+  pub same : new ≡ record new { count = old.count; fetches = old.fetches }
+  pub number : old.powered ≡ true → RaisedByOne old.programs new.programs
+  pub ends : Ends old new result
+
+-- what making it durable does
+pub record Settled (old new : ArrayState) (result : Result (Unit {0}) ArrayEnd) : Type 0 where
+  pub same : new ≡ record old { faults = new.faults }
+  pub ends : Ends old new result

@@ -1,1 +1,5 @@
 pub mod Array
+pub mod FilePages
+pub mod Hits
+pub mod Memory
+pub mod Script

@@ -2,5 +2,15 @@
 #![tactic(auto)]
 
 mod array;
+mod file_array;
+mod hits;
+mod mem_array;
+mod script_array;
 
 pub use array::{Array, ArrayEnd};
+pub use file_array::FileArray;
+pub use mem_array::MemArray;
+pub use script_array::ScriptArray;
+
+#[cfg(test)]
+mod tests;

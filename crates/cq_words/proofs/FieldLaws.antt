@@ -2,7 +2,7 @@
 use Rattle.std.proofs.Common.{◌≡◌, ℕ, ◌+◌, ◌-◌, ◌*◌, ◌/◌, ◌%◌, ◌^◌, ◌≤◌, ◌<◌, sym, ap, ◌∙◌, arith}
 use Rattle.std.proofs.Math.Nat.{lt-div-mul-add, mul-le-mul_right, zero-div, mod-eq_of_lt}
 use Rattle.std.proofs.Math.Pow.{mod-mod-pow}
-use Rattle.std.proofs.lemmas.Nat.{pow_pos, pow-add, mod_below, mod_low, shr_high, shr-shr, shr_below, field_of as field-shift}
+use Rattle.std.proofs.lemmas.Nat.{pow_pos, pow-add, mod_below, mod_low, shr_high, shr-shr, shr_below, shr_split, field_of as field-shift}
 use Rattle.cq_words.specs.Fields.{field_of, with_field}
 
 -- a field holds a number of its width
@@ -105,3 +105,18 @@ pub field_of-zero : (low width : ℕ) → field_of 0 low width ≡ 0
 unfolding field_of
 field_of-zero low width =
     ap (λ x. x % 2 ^ width) (zero-div (2 ^ low)) ∙ mod-eq_of_lt (pow_pos width)
+
+filled : (w q h f v a b r : ℕ) → q * a + r ≡ w → h * b + f ≡ q → f ≡ 0 → (h * b + v) * a + r ≡ w + v * a
+filled w q h f v a b r whole high none = omega (arith, ap (λ t. t * a) high, ap (λ t. t * a) none)
+
+-- in an empty field the value is added
+pub with_field-empty : (word low width value : ℕ) → field_of word low width ≡ 0
+    → with_field word low width value ≡ word + value * 2 ^ low
+unfolding field_of
+with_field-empty word low width value none =
+    let high : word / 2 ^ low / 2 ^ width ≡ word / 2 ^ (low + width) = shr-shr word low width in
+    let parts : word / 2 ^ (low + width) * 2 ^ width + word / 2 ^ low % 2 ^ width ≡ word / 2 ^ low =
+    ap (λ x. x * 2 ^ width + word / 2 ^ low % 2 ^ width) (sym high) ∙ shr_split (word / 2 ^ low) width in
+    with_field-split word low width value
+    ∙ filled word (word / 2 ^ low) (word / 2 ^ (low + width)) (word / 2 ^ low % 2 ^ width) value (2 ^ low) (2 ^ width) (word % 2 ^ low)
+    (shr_split word low) parts none

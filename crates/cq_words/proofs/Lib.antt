@@ -1,4 +1,5 @@
 pub mod FieldLaws
 mod MaskedWrites
+pub mod TableLaws
 pub mod WordReads
 mod WordWrites

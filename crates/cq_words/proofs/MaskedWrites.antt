@@ -44,6 +44,10 @@ cleared_split word low width lt h =
     (word / 2 ^ (low + width)) (2 ^ width) (2 ^ low) (word % 2 ^ low)
     (omega arith) (shr_split word low) parts
 
+-- a value cut to so many bits, as it is computed
+pub masked_value : (value width : ℕ) → width ≤ 32 → bit_and value (1 * 2 ^ width % 2 ^ 64 - 1) ≡ value % 2 ^ width
+masked_value value width h = ap (λ m. bit_and value (m - 1)) (one_shl width 64 (omega arith)) ∙ and_mask value width
+
 -- `bits`, as it is computed
 pub masked : (word low width : ℕ) → width ≤ 32
     → bit_and (word / 2 ^ low) (1 * 2 ^ width % 2 ^ 64 - 1) ≡ field_of word low width

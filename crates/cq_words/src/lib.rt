@@ -3,14 +3,16 @@
 #![tactic(auto)]
 
 mod fields;
+mod table;
 mod words;
 
 pub use fields::{bits, with_bits};
+pub use table::{BitField, FieldValue};
 pub use words::{get32, get64, put32, put64};
 
 #[cfg(test)]
 mod tests {
-    use super::{bits, get32, get64, put32, put64, with_bits};
+    use super::{BitField, FieldValue, bits, get32, get64, put32, put64, with_bits};
 
     #[test]
     fn words_are_read_as_written(rt: HostRuntime) {
@@ -27,5 +29,16 @@ mod tests {
         let word = with_bits(0x0000_1000_0008_102f, 16, 16, 0xfeed);
         assert!(rt; word == 0x0000_1000_feed_102f);
         assert!(rt; bits(word, 3, 3) == 5);
+    }
+
+    #[test]
+    fn a_table_makes_a_word(rt: HostRuntime) {
+        let direction = BitField { low: 12, width: 1 };
+        let blocks = BitField { low: 16, width: 16 };
+        let word = FieldValue::word_of(&[direction.of(1), blocks.of(8)]);
+        assert!(rt; word == 0x0008_1000);
+        assert!(rt; direction.is_set(word));
+        assert!(rt; blocks.get(word) == 8);
+        assert!(rt; blocks.of(0x1_0003).put(word) == 0x0003_1000);
     }
 }

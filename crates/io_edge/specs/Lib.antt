@@ -1,2 +1,6 @@
+pub mod AnySource
+pub mod Counter
+pub mod MemSink
+pub mod MemSource
 pub mod Sink
 pub mod Source

@@ -1,1 +1,12 @@
+pub mod Appends
+pub mod Applied
+pub mod Below
+pub mod Cuts
+pub mod Durable
+pub mod Keeps
+pub mod Mixes
+pub mod Passes
 pub mod Ramps
+pub mod Remains
+pub mod Scans
+pub mod Splits

@@ -2,18 +2,22 @@
 #![tactic(auto)]
 
 mod block;
+mod contents;
 mod ends;
 mod faults;
+mod left;
 mod marks;
 mod plan;
 mod sequence;
 mod trace;
 
 pub use block::{Block, BlockList, Bytes};
+pub use contents::{keep, now};
 pub use ends::{Halt, NoMemory, TextEnd};
 pub use faults::{
     ArrayHit, ArrayHits, BusKind, Faults, Hit, HitList, Letter, LetterList, WordList,
 };
+pub use left::{left_allows, mix_allows};
 pub use marks::{Kept, Mark, MarkList, Put};
 pub use plan::{Fill, Job, JobList, Plan, block_of};
 pub use sequence::Sequence;

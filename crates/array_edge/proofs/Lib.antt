@@ -1,0 +1,4 @@
+pub mod GranuleWrites
+pub mod Torn
+pub mod Meetings
+pub mod Scripted

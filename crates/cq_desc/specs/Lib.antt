@@ -1,0 +1,4 @@
+pub mod Descriptor
+pub mod Direct
+pub mod Task
+pub mod Transfer

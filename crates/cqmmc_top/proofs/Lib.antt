@@ -1,0 +1,5 @@
+pub mod Printing
+pub mod Running
+pub mod Serving
+pub mod Showing
+pub mod Writing

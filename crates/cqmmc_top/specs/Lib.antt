@@ -1,0 +1,4 @@
+pub mod Moves
+pub mod Opened
+pub mod Print
+pub mod Serial

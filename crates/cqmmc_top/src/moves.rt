@@ -1,0 +1,96 @@
+// The sectors of a request, moved in order.
+ghost use Rattle.std.specs.Prelude.{◌≡◌, ◌+◌, ◌<◌, ◌≤◌, List, length, IfErr, IfSome, OnOk};
+ghost use Rattle.std.specs.Option.{IsSomeAnd};
+ghost use Rattle.storage_model.specs.Plan.{IsFillListed};
+ghost use Rattle.storage_model.specs.declared.block.Block.{Block as BlockBytes};
+ghost use Rattle.cqmmc_top.specs.Moves.{Wrote, WroteSome, HasCause};
+ghost use Rattle.cqmmc_top.specs.Opened.{IsOpen, shown};
+ghost use Rattle.cqmmc_top.specs.Serial.{sectors_at};
+
+use crate::image::Image;
+use array_edge::{Array, ArrayEnd};
+use storage_model::{Block, Fill, Plan, block_of};
+
+/// A phase that broke off: how many blocks moved before, and why.
+#[derive(Clone, Copy, Debug, PartialEq, Eq)]
+pub struct Broken {
+    pub count: u16,
+    pub why: ArrayEnd,
+}
+
+/// Reads the sectors from `first` on into `values`.
+pub fn read_all<A: Array>(
+    image: &Image,
+    first: u32,
+    values: &mut [Block],
+    array: &mut A,
+) -> Result<(), Broken>
+    requires few { length values.old ≤ 1024 }
+    requires inside { first + length values.old ≤ image.now.sectors }
+    requires open { IsOpen image.now.sectors (A.state array.old) }
+    ensures read { OnOk result (IfSome (shown image.now.sectors (A.state array.old)) (λ base. values.new ≡ sectors_at base first (length values.old))) }
+    ensures same { (A.state array.new).told ≡ (A.state array.old).told }
+    ensures open { OnOk result (IsOpen image.now.sectors (A.state array.new)) }
+    ensures fewer { IfErr result (λ broken. broken.count < length values.old) }
+    ensures cause { HasCause (A.state array.old) (A.state array.new) result }
+{
+    let mut count = 0;
+    for value in values.iter_mut() {
+        if let Err(why) = image.read(first + u32::from(count), value, array) {
+            return Err(Broken { count, why });
+        }
+        count += 1;
+    }
+    Ok(())
+}
+
+/// Writes the first `count` blocks of a fill into the sectors from `first` on, and makes them durable.
+pub fn write_all<A: Array>(
+    image: &Image,
+    first: u32,
+    count: u16,
+    fill: Fill,
+    plan: &Plan,
+    array: &mut A,
+) -> Result<(), Broken>
+    requires listed { IsFillListed plan.now.blocks fill count }
+    requires few { count ≤ 1024 }
+    requires inside { first + count ≤ image.now.sectors }
+    requires open { IsOpen image.now.sectors (A.state array.old) }
+    ensures written { OnOk result (Wrote image.now.sectors (A.state array.old) first plan.now.blocks fill count (A.state array.new)) }
+    ensures open { OnOk result (IsOpen image.now.sectors (A.state array.new)) }
+    ensures some { IfErr result (λ broken. WroteSome image.now.sectors (A.state array.old) first plan.now.blocks fill count broken.count (A.state array.new)) }
+    ensures cause { HasCause (A.state array.old) (A.state array.new) result }
+{
+    program_all(image, first, count, fill, plan, array)?;
+    match image.settle(array) {
+        Ok(()) => Ok(()),
+        Err(why) => Err(Broken { count, why }),
+    }
+}
+
+fn program_all<A: Array>(
+    image: &Image,
+    first: u32,
+    count: u16,
+    fill: Fill,
+    plan: &Plan,
+    array: &mut A,
+) -> Result<(), Broken>
+    requires listed { IsFillListed plan.now.blocks fill count }
+    requires few { count ≤ 1024 }
+    requires inside { first + count ≤ image.now.sectors }
+    requires open { IsOpen image.now.sectors (A.state array.old) }
+    ensures written { OnOk result (Wrote image.now.sectors (A.state array.old) first plan.now.blocks fill count (A.state array.new)) }
+    ensures open { OnOk result (IsOpen image.now.sectors (A.state array.new)) }
+    ensures some { IfErr result (λ broken. WroteSome image.now.sectors (A.state array.old) first plan.now.blocks fill count broken.count (A.state array.new)) }
+    ensures cause { HasCause (A.state array.old) (A.state array.new) result }
+{
+    for done in 0..count {
+        let block = block_of(plan, fill, done);
+        if let Err(why) = image.program(first + u32::from(done), &block, array) {
+            return Err(Broken { count: done, why });
+        }
+    }
+    Ok(())
+}

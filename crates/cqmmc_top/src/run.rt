@@ -1,0 +1,75 @@
+// All requests of a plan, one after the other.
+ghost use Rattle.std.specs.Prelude.{◌≡◌, ◌+◌, ◌≤◌, [], All, List, ℕ, Option, Some, length, OnOk};
+ghost use Rattle.std.specs.Option.{IsSomeAnd};
+ghost use Rattle.storage_model.specs.Plan.{IsValidJob, blocks_of};
+ghost use Rattle.storage_model.specs.declared.block.Block.{Block as Contents};
+ghost use Rattle.cqmmc_top.specs.Opened.{IsOpen, shown};
+ghost use Rattle.cqmmc_top.specs.Print.{HasCause, Served};
+ghost use Rattle.cqmmc_top.specs.Serial.{after_jobs, issuing, ended, start, IsServable};
+
+use crate::image::Image;
+use crate::print::print;
+use crate::serve::{end, serve};
+use array_edge::Array;
+use io_edge::Sink;
+use storage_model::{Block, End, Halt, Item, Plan};
+
+/// Prints the first line, serves the requests in their order, and makes everything durable at the end. `buffer` has room
+/// for the sectors of each request.
+pub fn run_plan<A: Array, K: Sink>(
+    plan: &Plan,
+    image: &Image,
+    buffer: &mut [Block],
+    array: &mut A,
+    out: &mut K,
+) -> Result<(), Halt>
+    requires requests { All (IsServable plan.now.blocks image.now.sectors (length buffer.old)) plan.now.jobs }
+    requires few { length plan.now.jobs ≤ 65536 }
+    requires depth { plan.now.depth ≡ 16 }
+    requires lines { plan.now.lines ≡ 64 }
+    requires open { IsOpen image.now.sectors (A.state array.old) }
+    ensures served { (base : List Contents) → shown image.now.sectors (A.state array.old) ≡ Some base → Served K.took plan.now.blocks out.old (start base plan.now.jobs) result (shown image.now.sectors (A.state array.new)) out.new (ended (after_jobs plan.now.blocks base plan.now.jobs) (length plan.now.jobs + 1)) }
+    ensures cause { HasCause (K.faults out.old) (K.faults out.new) (A.state array.old) (A.state array.new) result }
+{
+    let first = Item::Card {
+        sectors: image.sectors,
+        depth: plan.depth,
+        lines: Some(plan.lines),
+    };
+    print(&first, out)?;
+    serve_jobs(plan, image, buffer, array, out)?;
+    finish(image, array, out)
+}
+
+fn serve_jobs<A: Array, K: Sink>(
+    plan: &Plan,
+    image: &Image,
+    buffer: &mut [Block],
+    array: &mut A,
+    out: &mut K,
+) -> Result<(), Halt>
+    requires requests { All (IsServable plan.now.blocks image.now.sectors (length buffer.old)) plan.now.jobs }
+    requires few { length plan.now.jobs ≤ 65536 }
+    requires open { IsOpen image.now.sectors (A.state array.old) }
+    ensures served { (base : List Contents) → shown image.now.sectors (A.state array.old) ≡ Some base → Served K.took plan.now.blocks out.old (issuing base 1 plan.now.jobs) result (shown image.now.sectors (A.state array.new)) out.new (issuing (after_jobs plan.now.blocks base plan.now.jobs) (length plan.now.jobs + 1) []) }
+    ensures open { OnOk result (IsOpen image.now.sectors (A.state array.new)) }
+    ensures cause { HasCause (K.faults out.old) (K.faults out.new) (A.state array.old) (A.state array.new) result }
+{
+    let jobs = plan.jobs.as_slice();
+    for (place, job) in jobs.iter().enumerate() {
+        serve(place as u32 + 1, job, plan, image, buffer, array, out)?;
+    }
+    Ok(())
+}
+
+// The array is settled once more, and the last line says how that ended.
+fn finish<A: Array, K: Sink>(image: &Image, array: &mut A, out: &mut K) -> Result<(), Halt>
+    requires { IsOpen image.now.sectors (A.state array.old) }
+    ensures served { (blocks base : List Contents) (id : ℕ) → shown image.now.sectors (A.state array.old) ≡ Some base → Served K.took blocks out.old (issuing base id []) result (shown image.now.sectors (A.state array.new)) out.new (ended base id) }
+    ensures cause { HasCause (K.faults out.old) (K.faults out.new) (A.state array.old) (A.state array.new) result }
+{
+    match image.settle(array) {
+        Ok(()) => print(&Item::Off { end: End::Good }, out),
+        Err(why) => end(why, out),
+    }
+}

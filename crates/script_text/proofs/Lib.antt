@@ -1,0 +1,5 @@
+pub mod Bytes
+pub mod FaultMeanings
+pub mod JobWords
+pub mod Lines
+pub mod Meanings

@@ -1,0 +1,5 @@
+pub mod Faults
+pub mod Reads
+pub mod Requests
+pub mod Tally
+pub mod Words

@@ -1,0 +1,25 @@
+-- The words that every line is made of. A number and a byte have one spelling each.
+use Rattle.std.specs.Prelude.{ℕ, ◌++◌, ◌==◌, List, [], ◌∷◌, Option, Some, None, codes}
+use Rattle.std.specs.List.{join_with_byte, slice_split}
+use Rattle.hex.specs.Hex.{encode_lower}
+
+-- words parted by single spaces
+abbrev pub spaced : List (List ℕ) → List ℕ
+spaced words = join_with_byte 32 words
+
+-- a line: words parted by single spaces, and a line feed
+abbrev pub line : List (List ℕ) → List ℕ
+line words = spaced words ++ codes "\n"
+
+-- the words between the spaces of a text
+abbrev pub words_of : List ℕ → List (List ℕ)
+words_of text = slice_split (λ b. b == 32) text
+
+-- the words of what is left of a line, if anything is left
+abbrev pub words_left : Option (List ℕ) → List (List ℕ)
+words_left None = []
+words_left (Some text) = words_of text
+
+-- a byte as two lower case hexadecimal digits
+abbrev pub hex_byte : ℕ → List ℕ
+hex_byte byte = encode_lower (byte ∷ [])

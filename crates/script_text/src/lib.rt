@@ -1,0 +1,15 @@
+//! Request and fault texts, read into plans and faults. Every text is lines that each end with a line feed, and each
+//! line's meaning has exactly one spelling.
+#![tactic(auto)]
+
+mod faults;
+mod job;
+mod numbers;
+mod requests;
+mod words;
+
+pub use faults::read_faults;
+pub use requests::read_requests;
+
+#[cfg(test)]
+mod tests;

@@ -1,0 +1,7 @@
+use Rattle.task_queue.proofs.Words.{bit_at-ready_word}
+use Rattle.task_queue.proofs.queue.TaskQueue.status_word.Goals as goal
+
+pub returns-clause-bits : goal.returns-clause-bits
+returns-clause-bits c =
+    rw (c.queued_bits.ensures, c.as_slice.ensures.value, ← c.self.view_is)
+    (bit_at-ready_word (record { slots = c.self.inside.slots.items; choice = c.self.inside.choice; waiting = c.self.inside.waiting }))

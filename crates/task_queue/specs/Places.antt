@@ -1,0 +1,17 @@
+-- The queue of the card (JESD84-B51, section 6.6.39).
+use Rattle.std.specs.Prelude.{◌≡◌, ℕ, ◌<◌, ◌≤◌, List, length, Option, None, IfSome, slice_index_or}
+use Rattle.cmd_words.specs.declared.command.Task.{Task}
+use Rattle.task_queue.specs.declared.queue.Queued.{Queued}
+
+-- a place for each task below the depth, the tasks last chosen less those queued since, and the task that waits for its
+-- start sector
+pub record Queue : Type 0 where
+  pub slots : List (Option Queued)
+  pub choice : ℕ
+  pub waiting : Option Task
+
+-- the places are at most 31, each task is in the place of its number, and the task that waits has a place
+pub record IsKept (slots : List (Option Queued)) (waiting : Option Task) : Type 0 where
+  pub depth : length slots ≤ 31
+  pub home : (place : ℕ) → IfSome (slice_index_or slots place None) (λ queued. queued.task.task ≡ place)
+  pub waits : IfSome waiting (λ task. task.task < length slots)

@@ -1,0 +1,7 @@
+//! The lines of a trace.
+#![tactic(auto)]
+
+mod line;
+mod write;
+
+pub use write::put_item;
