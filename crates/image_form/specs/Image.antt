@@ -41,7 +41,11 @@ pub data PageCall : Type 0 where
   Fetch : ℕ → PageCall
   Program : ℕ → PageCall
 
+-- the calls that finish a gate, in their order
+abbrev pub finishing : Gate → List PageCall
+finishing Shut = []
+finishing (Ajar sector) = Fetch 2 ∷ Program (8 + sector) ∷ Program 1 ∷ []
+
 -- the calls of an opening, in their order, up to the first that fails or is cut
 abbrev pub opening : Gate → List PageCall
-opening Shut = Fetch 0 ∷ Fetch 1 ∷ []
-opening (Ajar sector) = Fetch 0 ∷ Fetch 1 ∷ Fetch 2 ∷ Program (8 + sector) ∷ Program 1 ∷ []
+opening gate = Fetch 0 ∷ Fetch 1 ∷ finishing gate

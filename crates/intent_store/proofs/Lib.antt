@@ -1,2 +1,4 @@
-mod Writes
-mod Steps
+mod WriteLemmas
+mod StepLemmas
+mod OpeningLemmas
+mod CallLemmas

@@ -1,5 +1,5 @@
 -- What an intent store knows of an image, what an array shows through it, and how its calls end.
-use Rattle.std.specs.Prelude.{◌≡◌, ◌⊎◌, ◌≤◌, ℕ, ◌+◌, ◌==◌, true, false, List, Option, Some, None, IfSome, Result, Ok, Err, IsErrOf, OnOk, option_map, slice_set, if◌then◌else◌}
+use Rattle.std.specs.Prelude.{◌≡◌, ◌⊎◌, ◌≤◌, ℕ, ◌+◌, ◌==◌, true, false, List, Option, Some, None, IfSome, MatchOption, Result, Ok, Err, IsErrOf, OnOk, option_map, slice_set, if◌then◌else◌}
 use Rattle.std.specs.Option.{ForSome}
 use Rattle.storage_model.specs.Count.{Later, Rose}
 use Rattle.storage_model.specs.Granule.{IsMix}
@@ -9,6 +9,8 @@ use Rattle.image_form.specs.declared.gate.Gate.{Gate}
 use Rattle.image_form.specs.declared.gate.Gate.TheVariants.{Shut, Ajar}
 use Rattle.image_form.specs.Form.{IsSuper, IsGate, gate_number}
 use Rattle.image_form.specs.Image.{IsImage, sectors_of, gate_at, shown, page_at}
+use Rattle.intent_store.specs.declared.ends.StartEnd.{StartEnd}
+use Rattle.intent_store.specs.declared.ends.StartEnd.TheVariants.{Flash as StartFlash, PowerLost as StartPowerLost, BadImage}
 use Rattle.intent_store.specs.declared.ends.StoreEnd.{StoreEnd}
 use Rattle.intent_store.specs.declared.ends.StoreEnd.TheVariants.{Flash, PowerLost}
 
@@ -32,11 +34,6 @@ pub record IntentStands (known : Known) (array : ArrayState) : Type 0 where
   pub room : 8 + known.sectors ≤ array.count
   pub told : IfSome array.told (IsKnown known)
 
--- the page that a sector is read from
-abbrev pub place_of : Gate → ℕ → ℕ
-place_of Shut sector = 8 + sector
-place_of (Ajar ajar) sector = if ajar == sector then 2 else 8 + sector
-
 -- How a call of an intent store ends. Counts don't fall. `Flash` is told only where the array failed in this call,
 -- `PowerLost` only where the power was cut in this call or was off.
 pub record StoreEnds {T : Type 0} (old new : ArrayState) (result : Result T StoreEnd) : Type 0 where
@@ -47,42 +44,30 @@ pub record StoreEnds {T : Type 0} (old new : ArrayState) (result : Result T Stor
   pub flash : IsErrOf result Flash → Rose old.faults new.faults × (old.powered ≡ true) × (new.powered ≡ true)
   pub lost : IsErrOf result PowerLost → (Rose old.cuts new.cuts ⊎ (old.powered ≡ false)) × (new.powered ≡ false)
 
+-- an opening hands on why a call of it ended
+abbrev pub start_end : StoreEnd → StartEnd
+start_end Flash = StartFlash
+start_end PowerLost = StartPowerLost
+
+-- How an opening ends. It begins with the power on. Counts don't fall, and `Flash` and `PowerLost` are told only where
+-- the array failed or was cut in this call.
+pub record StartEnds {T : Type 0} (old new : ArrayState) (result : Result T StartEnd) : Type 0 where
+  pub count : new.count ≡ old.count
+  pub faults : Later old.faults new.faults
+  pub cuts : Later old.cuts new.cuts
+  pub ok : OnOk result (new.powered ≡ true)
+  pub flash : IsErrOf result StartFlash → Rose old.faults new.faults × (new.powered ≡ true)
+  pub lost : IsErrOf result StartPowerLost → Rose old.cuts new.cuts × (new.powered ≡ false)
+  pub bad : IsErrOf result BadImage → new.powered ≡ true
+
+-- the array shows an image, where it tells its pages
+abbrev pub ShowsImage : ArrayState → Type 0
+ShowsImage array = IfSome array.told IsImage
+
+-- the pages, where they are told, are no image
+abbrev pub IsNoImage : ArrayState → Type 0
+IsNoImage array = IfSome array.told (λ pages. IsImage pages → ⊥)
+
 -- with the power off nothing is done
 abbrev pub IsRefusedOff : ArrayState → ArrayState → Result (Unit {0}) StoreEnd → Type 0
 IsRefusedOff old new result = old.powered ≡ false → (result ≡ Err PowerLost) × (new ≡ old)
-
--- A page was written: whole where the call ended well, and else each of its granules is old or new.
-pub record IsWritten (old : Option (List Block)) (page : ℕ) (block : Block) (new : Option (List Block)) (result : Result (Unit {0}) StoreEnd) : Type 0 where
-  pub left : Block
-  pub mix : IfSome old (λ pages. IsMix (page_at pages page) block left)
-  pub told : new ≡ with_page old page left
-  pub whole : OnOk result (left ≡ block)
-
--- what is known once the gate was programmed: it, or nothing where that failed
-abbrev pub after_gate : ℕ → Gate → Result (Unit {0}) StoreEnd → Known
-after_gate sectors gate (Ok done) = record { sectors = sectors; gate = Some gate }
-after_gate sectors gate (Err end) = record { sectors = sectors; gate = None }
-
--- the number of sectors and the gate are within the limits of an image
-pub record IsInRange (sectors : ℕ) (gate : Option Gate) : Type 0 where
-  pub some : 1 ≤ sectors
-  pub most : sectors ≤ 65536
-  pub within : ForSome gate (λ gate. gate_number gate ≤ sectors)
-
--- the page of the sector for which the gate is ajar is what the intent page is
-abbrev pub IsMoved : Option Gate → Option (List Block) → Type 0
-IsMoved (Some (Ajar sector)) told = IfSome told (λ pages. page_at pages (8 + sector) ≡ page_at pages 2)
-IsMoved _ told = Unit {0}
-
--- the sectors shown, with the intent page in place of one
-abbrev pub with_intent : Option (List Block) → ℕ → Option (List Block)
-with_intent told sector = option_map (λ pages. slice_set (shown pages) sector (page_at pages 2)) told
-
-abbrev pub intent_by : ArrayState → Option Block
-intent_by array = option_map (λ pages. page_at pages 2) array.told
-
--- two pages are superblock and gate of an image, for which there are enough pages
-pub record IsOpening (first second : Block) (count : ℕ) (known : Known) : Type 0 where
-  pub superblock : IsSuper first (record { version = 1; sectors = known.sectors })
-  pub gate : IfSome known.gate (IsGate second known.sectors)
-  pub room : 8 + known.sectors ≤ count

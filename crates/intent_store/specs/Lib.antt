@@ -1,1 +1,3 @@
+pub mod Calls
 pub mod Intent
+pub mod Steps

@@ -1,8 +1,12 @@
-ghost use Rattle.std.specs.Prelude.{◌≡◌, ◌⊎◌, ◌≤◌, ◌<◌, ◌+◌, false, Some, IsSome, IfSome, IfOk, OnOk, OnErr};
+ghost use Rattle.std.specs.Prelude.{◌≡◌, ◌⊎◌, ◌≤◌, ◌<◌, ◌+◌, true, false, [], ◌∷◌, is_ok, Bool, List, IsOk, IsErr, Some, Err, IsErrOf, IsNone, IsSome, IfSome, IfOk, OnOk, OnErr};
 ghost use Rattle.array_edge.specs.Array.{ArrayState, HasPage, IsTorn, with_page};
 ghost use Rattle.image_form.specs.Form.{gate_number, gate_head, page_of};
 ghost use Rattle.image_form.specs.declared.gate.Gate.TheVariants.{Shut, Ajar};
-ghost use Rattle.intent_store.specs.Intent.{Known, IntentStands, StoreEnds, IsRefusedOff, IsWritten, IsMoved, after_gate, place_of, shown_by, intent_by, with_intent};
+ghost use Rattle.image_form.specs.Image.{PageCall, Fetch, IsImage, Program, finishing, gate_at, opening};
+ghost use Rattle.intent_store.specs.declared.ends.StartEnd.TheVariants.{BadImage};
+ghost use Rattle.intent_store.specs.Calls.{IsCall, Makes};
+ghost use Rattle.intent_store.specs.Intent.{Known, IntentStands, IsNoImage, ShowsImage, StartEnds, StoreEnds, IsRefusedOff, shown_by};
+ghost use Rattle.intent_store.specs.Steps.{IsOpening, IsWritten, IsMoved, after_gate, place_of, intent_by, with_intent};
 
 use crate::pages::{fetch, program};
 use crate::{StartEnd, StoreEnd};
@@ -19,7 +23,8 @@ pub struct Intent {
 }
 
 impl Model for Intent {
-    ghost use Rattle.intent_store.specs.Intent.{Known, IsInRange};
+    ghost use Rattle.intent_store.specs.Intent.{Known};
+    ghost use Rattle.intent_store.specs.Steps.{IsInRange};
 
     ghost Value = { Known };
 
@@ -29,6 +34,50 @@ impl Model for Intent {
 }
 
 impl Intent {
+    /// Opens an image: switches the array on, fetches page 0 and page 1, and where the gate is ajar for a sector, fetches
+    /// the intent page, programs the sector with it and programs the gate shut. `BadImage` comes where the first two pages
+    /// are no superblock and gate or the array has fewer than 8 + sectors pages; of fewer than 2 pages none is fetched.
+    /// An opening that was cut may begin again.
+    pub fn start<A: Array>(array: &mut A) -> Result<Intent, StartEnd>
+        ensures stands { IfOk result (λ intent. IntentStands intent (A.state array.new)) }
+        ensures shut { OnOk result (IfSome (A.state array.new).told (λ pages. gate_at pages ≡ Shut)) }
+        ensures image { OnOk result (ShowsImage (A.state array.old)) }
+        ensures bad { IsErrOf result BadImage → IsNoImage (A.state array.old) }
+        ensures bad_told { IsErrOf result BadImage → (A.state array.new).told ≡ (A.state array.old).told }
+        ensures few { (A.state array.old).count < 2 → (result ≡ Err BadImage) × (A.state array.new ≡ record (A.state array.old) { powered = true }) }
+        ensures shown { shown_by (A.state array.new) ≡ shown_by (A.state array.old) }
+        ensures kept { ShowsImage (A.state array.old) → ShowsImage (A.state array.new) }
+        ensures ends { StartEnds (A.state array.old) (A.state array.new) result }
+        ensures calls { IfSome (A.state array.old).told (λ pages. IsImage pages → Makes (opening (gate_at pages)) (record (A.state array.old) { powered = true }) (A.state array.new) (is_ok result)) }
+    {
+        array.power_on();
+        let mut intent = Intent::find(array)?;
+        intent.close(array)?;
+        Ok(intent)
+    }
+
+    // Fetches page 0 and page 1, and judges both.
+    fn find<A: Array>(array: &mut A) -> Result<Intent, StartEnd>
+        requires { (A.state array.old).powered ≡ true }
+        ensures stands { IfOk result (λ intent. IntentStands intent (A.state array.new)) }
+        ensures bad { IsErrOf result BadImage → IsNoImage (A.state array.old) }
+        ensures told { (A.state array.new).told ≡ (A.state array.old).told }
+        ensures few { (A.state array.old).count < 2 → (result ≡ Err BadImage) × (A.state array.new ≡ A.state array.old) }
+        ensures ends { StartEnds (A.state array.old) (A.state array.new) result }
+        ensures known { IfOk result (λ intent. IsSome intent.gate) }
+        ensures calls { (rest : List PageCall) (last : ArrayState) (ok : Bool) → IsOk result → Makes rest (A.state array.new) last ok → Makes (Fetch 0 ∷ Fetch 1 ∷ rest) (A.state array.old) last ok }
+        ensures failed { (rest : List PageCall) → IsErr result → (IsErrOf result BadImage → ⊥) → Makes (Fetch 0 ∷ Fetch 1 ∷ rest) (A.state array.old) (A.state array.new) false }
+    {
+        if array.pages() < 2 {
+            return Err(StartEnd::BadImage);
+        }
+        let mut first = Block([0; 512]);
+        fetch(array, 0, &mut first)?;
+        let mut second = Block([0; 512]);
+        fetch(array, 1, &mut second)?;
+        judge(&first, &second, array.pages()).ok_or(StartEnd::BadImage)
+    }
+
     /// The number of sectors of the image.
     pub fn sectors(&self) -> u32
         ensures value { result ≡ self.now.sectors }
@@ -39,7 +88,7 @@ impl Intent {
     }
 
     /// Reads a sector. It programs nothing.
-    #[tactic(auto, using(crate::proofs::Steps::read_place))]
+    #[tactic(auto, using(crate::proofs::StepLemmas::read_place))]
     pub fn read<A: Array>(
         &mut self,
         sector: u32,
@@ -60,7 +109,7 @@ impl Intent {
     }
 
     /// Programs a sector in place. After an error each granule of it is old or new. A gate that is ajar is finished before.
-    #[tactic(auto, using(crate::proofs::Steps::same_torn))]
+    #[tactic(auto, using(crate::proofs::StepLemmas::same_torn))]
     pub fn program<A: Array>(
         &mut self,
         sector: u32,
@@ -113,6 +162,7 @@ impl Intent {
         ensures told { (A.state array.new).told ≡ (A.state array.old).told }
         ensures ends { StoreEnds (A.state array.old) (A.state array.new) result }
         ensures off { (A.state array.old).powered ≡ false → A.state array.new ≡ A.state array.old }
+        ensures calls { IsSome self.old.gate → (IfOk result (λ gate. self.old.gate ≡ Some gate)) × (is_ok result ≡ true) × ((A.state array.new) ≡ (A.state array.old)) }
     {
         if let Some(gate) = self.gate {
             return Ok(gate);
@@ -132,6 +182,7 @@ impl Intent {
         ensures written { IsWritten (A.state array.old).told 1 (page_of (gate_head (gate_number gate))) (A.state array.new).told result }
         ensures ends { StoreEnds (A.state array.old) (A.state array.new) result }
         ensures off { IsRefusedOff (A.state array.old) (A.state array.new) result }
+        ensures calls { (A.state array.old).powered ≡ true → IsCall (Program 1) (A.state array.old) (A.state array.new) result }
     {
         prove!(self.sectors <= 65536);
         let done = program(array, 1, &write_gate(gate));
@@ -148,6 +199,7 @@ impl Intent {
         ensures shown { shown_by (A.state array.new) ≡ shown_by (A.state array.old) }
         ensures ends { StoreEnds (A.state array.old) (A.state array.new) result }
         ensures off { (A.state array.old).powered ≡ false → A.state array.new ≡ A.state array.old }
+        ensures calls { (gate : Gate) → self.old.gate ≡ Some gate → (A.state array.old).powered ≡ true → Makes (finishing gate) (A.state array.old) (A.state array.new) (is_ok result) }
     {
         match self.look(array)? {
             Gate::Shut => Ok(()),
@@ -166,6 +218,7 @@ impl Intent {
         ensures shown { shown_by (A.state array.new) ≡ shown_by (A.state array.old) }
         ensures ends { StoreEnds (A.state array.old) (A.state array.new) result }
         ensures off { IsRefusedOff (A.state array.old) (A.state array.new) result }
+        ensures calls { (A.state array.old).powered ≡ true → Makes (finishing (Ajar sector)) (A.state array.old) (A.state array.new) (is_ok result) }
     {
         let mut block = Block([0; 512]);
         fetch(array, 2, &mut block)?;
@@ -189,6 +242,7 @@ impl Intent {
         ensures shown { shown_by (A.state array.new) ≡ shown_by (A.state array.old) }
         ensures ends { StoreEnds (A.state array.old) (A.state array.new) result }
         ensures off { IsRefusedOff (A.state array.old) (A.state array.new) result }
+        ensures calls { (A.state array.old).powered ≡ true → Makes (Program (8 + sector) ∷ Program 1 ∷ []) (A.state array.old) (A.state array.new) (is_ok result) }
     {
         self.move_in(sector, block, array)?;
         self.shut(array)
@@ -205,6 +259,7 @@ impl Intent {
         ensures shown { shown_by (A.state array.new) ≡ shown_by (A.state array.old) }
         ensures ends { StoreEnds (A.state array.old) (A.state array.new) result }
         ensures off { IsRefusedOff (A.state array.old) (A.state array.new) result }
+        ensures calls { (A.state array.old).powered ≡ true → IsCall (Program (8 + sector)) (A.state array.old) (A.state array.new) result }
     {
         prove!(sector < self.sectors);
         program(array, 8 + sector, block)
@@ -221,12 +276,13 @@ impl Intent {
         ensures shown { shown_by (A.state array.new) ≡ shown_by (A.state array.old) }
         ensures ends { StoreEnds (A.state array.old) (A.state array.new) result }
         ensures off { IsRefusedOff (A.state array.old) (A.state array.new) result }
+        ensures calls { (A.state array.old).powered ≡ true → Makes (Program 1 ∷ []) (A.state array.old) (A.state array.new) (is_ok result) }
     {
         self.turn(Gate::Shut, array)
     }
 
     // Programs the intent page, and then the gate ajar for the sector.
-    #[tactic(auto, using(crate::proofs::Steps::intent_shown))]
+    #[tactic(auto, using(crate::proofs::StepLemmas::intent_shown))]
     fn offer<A: Array>(&mut self, sector: u32, block: &Block, array: &mut A) -> Result<(), StoreEnd>
         requires sector { sector < self.old.sectors }
         requires shut { self.old.gate ≡ Some Shut }
@@ -299,4 +355,20 @@ fn page_of(gate: Gate, sector: u32) -> u32
         Gate::Ajar(ajar) if ajar == sector => 2,
         _ => 8 + sector,
     }
+}
+
+// What page 0 and page 1 tell of an image on so many pages. None comes exactly where they are no image.
+fn judge(first: &Block, second: &Block, pages: u32) -> Option<Intent>
+    ensures some { IfSome result (IsOpening first.now second.now pages) }
+    ensures none { (known : Known) → IsOpening first.now second.now pages known → IsNone result → ⊥ }
+{
+    let found = read_super(first)?;
+    let gate = read_gate(second, found.sectors)?;
+    if pages < 8 + found.sectors {
+        return None;
+    }
+    Some(Intent {
+        sectors: found.sectors,
+        gate: Some(gate),
+    })
 }

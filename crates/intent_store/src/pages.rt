@@ -1,6 +1,9 @@
-ghost use Rattle.std.specs.Prelude.{◌≡◌, ◌<◌, OnOk, OnErr};
+ghost use Rattle.std.specs.Prelude.{◌≡◌, ◌<◌, true, OnOk, OnErr};
+ghost use Rattle.image_form.specs.Image.{Fetch, Program};
 ghost use Rattle.array_edge.specs.Array.{ArrayState, HasPage, IsTorn, with_page};
-ghost use Rattle.intent_store.specs.Intent.{StoreEnds, IsRefusedOff, IsWritten};
+ghost use Rattle.intent_store.specs.Intent.{StoreEnds, IsRefusedOff};
+ghost use Rattle.intent_store.specs.Steps.{IsWritten};
+ghost use Rattle.intent_store.specs.Calls.{IsCall};
 
 use crate::StoreEnd;
 use array_edge::{Array, ArrayEnd};
@@ -13,6 +16,7 @@ pub fn fetch<A: Array>(array: &mut A, page: u32, block: &mut Block) -> Result<()
     ensures told { (A.state array.new).told ≡ (A.state array.old).told }
     ensures ends { StoreEnds (A.state array.old) (A.state array.new) result }
     ensures off { IsRefusedOff (A.state array.old) (A.state array.new) result }
+    ensures call { (A.state array.old).powered ≡ true → IsCall (Fetch page) (A.state array.old) (A.state array.new) result }
 {
     match array.fetch(page, block) {
         Ok(()) => Ok(()),
@@ -22,12 +26,13 @@ pub fn fetch<A: Array>(array: &mut A, page: u32, block: &mut Block) -> Result<()
 }
 
 // Writes a page.
-#[tactic(auto, using(crate::proofs::Writes::whole_write, crate::proofs::Writes::torn_write))]
+#[tactic(auto, using(crate::proofs::WriteLemmas::whole_write, crate::proofs::WriteLemmas::torn_write))]
 pub fn program<A: Array>(array: &mut A, page: u32, block: &Block) -> Result<(), StoreEnd>
     requires { page < (A.state array.old).count }
     ensures written { IsWritten (A.state array.old).told page block.now (A.state array.new).told result }
     ensures ends { StoreEnds (A.state array.old) (A.state array.new) result }
     ensures off { IsRefusedOff (A.state array.old) (A.state array.new) result }
+    ensures call { (A.state array.old).powered ≡ true → IsCall (Program page) (A.state array.old) (A.state array.new) result }
 {
     match array.program(page, block) {
         Ok(()) => Ok(()),

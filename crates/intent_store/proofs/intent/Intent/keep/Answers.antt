@@ -1,5 +1,5 @@
 use Rattle.std.proofs.Common.{arith}
-use Rattle.intent_store.proofs.Steps.{stands_other, shown_keep}
+use Rattle.intent_store.proofs.StepLemmas.{stands_other, shown_keep}
 use Rattle.intent_store.proofs.intent.Intent.keep.Goals as goal
 
 pub returns-clause-stands : goal.returns-clause-stands

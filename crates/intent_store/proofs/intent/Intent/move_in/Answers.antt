@@ -1,6 +1,6 @@
 use Rattle.std.proofs.Common.{arith}
 use Rattle.std.specs.Prelude.{◌+◌}
-use Rattle.intent_store.proofs.Steps.{stands_other, shown_in}
+use Rattle.intent_store.proofs.StepLemmas.{stands_other, shown_in}
 use Rattle.intent_store.proofs.intent.Intent.move_in.Goals as goal
 
 pub returns-clause-stands : goal.returns-clause-stands

@@ -1,6 +1,6 @@
 use Rattle.std.proofs.Common.{arith}
 use Rattle.image_form.specs.declared.gate.Gate.TheVariants.{Ajar}
-use Rattle.intent_store.proofs.Steps.{stands_turned, shown_open, shown_opened}
+use Rattle.intent_store.proofs.StepLemmas.{stands_turned, shown_open, shown_opened}
 use Rattle.intent_store.proofs.intent.Intent.open.Goals as goal
 
 pub returns-clause-stands : goal.returns-clause-stands

@@ -1,7 +1,7 @@
 use Rattle.std.proofs.Common.{arith}
 use Rattle.std.specs.Prelude.{◌+◌}
 use Rattle.intent_store.specs.Intent.{shown_by}
-use Rattle.intent_store.proofs.Steps.{stands_other, shown_put, written_torn, written_ok}
+use Rattle.intent_store.proofs.StepLemmas.{stands_other, shown_put, written_torn, written_ok}
 use Rattle.intent_store.proofs.intent.Intent.put.Goals as goal
 
 pub returns-clause-stands : goal.returns-clause-stands

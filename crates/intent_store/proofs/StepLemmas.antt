@@ -13,8 +13,9 @@ use Rattle.image_form.specs.Image.{page_at, sectors_of, gate_at, IsImage, shown}
 use Rattle.image_form.proofs.Forms.{granule-gate_page}
 use Rattle.image_form.proofs.Images.{page_at-same, sectors_of-other, gate_at-other, gate_at-IsGate, ajar_sector, IsImage-other, IsImage-gate, shown-at_shut, shown-at_ajar, shown-at_other, shown-intent, shown-sector, shown-behind, shown-same, shown-opened, shown-closed}
 use Rattle.intent_store.specs.declared.ends.StoreEnd.{StoreEnd}
-use Rattle.intent_store.specs.Intent.{Known, IsKnown, IntentStands, StoreEnds, IsWritten, IsMoved, after_gate, place_of, shown_by, with_intent}
-use Rattle.intent_store.proofs.Writes.{IsMix-old}
+use Rattle.intent_store.specs.Intent.{Known, IsKnown, IntentStands, StoreEnds, shown_by}
+use Rattle.intent_store.specs.Steps.{IsWritten, IsMoved, after_gate, place_of, with_intent}
+use Rattle.intent_store.proofs.WriteLemmas.{IsMix-old}
 
 known_gate : (known : Known) (pages : List Block) (gate : Gate) → IsKnown known pages → known.gate ≡ Some gate → gate_at pages ≡ gate
 known_gate known pages gate is e = let P : Option Gate → Type 0 = λ o. IfSome o (λ g. gate_at pages ≡ g) in subst P e is.gate

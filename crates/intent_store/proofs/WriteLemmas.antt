@@ -5,7 +5,7 @@ use Rattle.storage_model.specs.Granule.{IsMix}
 use Rattle.storage_model.specs.declared.block.Block.{Block}
 use Rattle.array_edge.specs.Array.{with_page, IsTorn, page_at}
 use Rattle.intent_store.specs.declared.ends.StoreEnd.{StoreEnd}
-use Rattle.intent_store.specs.Intent.{IsWritten}
+use Rattle.intent_store.specs.Steps.{IsWritten}
 
 pub IsMix-new : (old new : Block) → IsMix old new new
 IsMix-new old new = record { each = λ k h. inr refl }
