@@ -5,8 +5,8 @@ use Rattle.storage_model.specs.declared.block.Block.{Block}
 use Rattle.array_edge.specs.Array.{ArrayState, HasPage, page_at}
 use Rattle.image_form.specs.Image.{shown}
 use Rattle.image_form.proofs.Images.{length-shown}
-use Rattle.intent_store.specs.Intent.{Known, IsKnown, shown_by}
-use Rattle.cqmmc_top.specs.Opened.{IsOpen}
+use Rattle.intent_store.specs.Intent.{Known, IsKnown, IntentStands, shown_by}
+use Rattle.cqmmc_top.specs.Opened.{IsOpen, HasSectors}
 
 -- as many sectors are shown as the image has
 pub shown_length : (known : Known) (array : ArrayState) (base : List Block) → IsOpen known array → shown_by array ≡ Some base → length base ≡ known.sectors
@@ -34,3 +34,11 @@ read_next known old mid values first i sector block is_open same below inside is
         → IfSome showing (λ base. take (i + 1) (set values i block) ≡ take (i + 1) (drop first base))
     go None long so_far has = tt
     go (Some base) long so_far has = one_more base values first i block below (long base refl) has so_far
+
+-- what was shown before the opening has as many sectors as the image
+pub has_sectors : (known : Known) (old new : ArrayState) → IntentStands known new → shown_by new ≡ shown_by old → HasSectors old known.sectors
+has_sectors known old new stands same = subst (λ showing. IfSome showing (λ base. length base ≡ known.sectors)) same (go new.told stands.told)
+  where
+    go : (told : Option (List Block)) → IfSome told (IsKnown known) → IfSome (option_map shown told) (λ base. length base ≡ known.sectors)
+    go None known_pages = tt
+    go (Some pages) known_pages = length-shown pages known_pages.image ∙ known_pages.sectors

@@ -1,3 +1,5 @@
+pub mod Answers
+pub mod Command
 pub mod Moves
 pub mod Opened
 pub mod Print

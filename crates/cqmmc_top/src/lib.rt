@@ -1,10 +1,14 @@
 //! The commands of the program, over any array, sources and sink.
 #![tactic(auto)]
 
+mod command;
 mod moves;
 mod opening;
+mod prepare;
 mod print;
 mod refusal;
 mod run;
 mod serve;
 mod texts;
+
+pub use command::run_command;

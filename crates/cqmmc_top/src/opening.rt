@@ -19,7 +19,7 @@ pub fn open<A: Array>(array: &mut A) -> Result<Intent, Refusal>
     ensures faults { Later (A.state array.old).faults (A.state array.new).faults }
     ensures cuts { Later (A.state array.old).cuts (A.state array.new).cuts }
 {
-    for _ in 0..8u32 {
+    for opening in 0..8u32 {
         match Intent::start(array) {
             Ok(intent) => return Ok(intent),
             Err(StartEnd::Flash) => return Err(Refusal::ArrayFault),

@@ -47,6 +47,7 @@ impl Intent {
         ensures few { (A.state array.old).count < 2 → (result ≡ Err BadImage) × (A.state array.new ≡ record (A.state array.old) { powered = true }) }
         ensures shown { shown_by (A.state array.new) ≡ shown_by (A.state array.old) }
         ensures kept { ShowsImage (A.state array.old) → ShowsImage (A.state array.new) }
+        ensures was_image { ShowsImage (A.state array.new) → ShowsImage (A.state array.old) }
         ensures ends { StartEnds (A.state array.old) (A.state array.new) result }
         ensures calls { IfSome (A.state array.old).told (λ pages. IsImage pages → Makes (opening (gate_at pages)) (record (A.state array.old) { powered = true }) (A.state array.new) (is_ok result)) }
     {

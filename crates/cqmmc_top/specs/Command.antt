@@ -1,0 +1,87 @@
+-- What a command answers: its status, what it wrote, and what the image shows then.
+use Rattle.std.specs.Prelude.{◌≡◌, ◌⊎◌, ℕ, ◌+◌, List, [], ◌∷◌, length, Option, IfSome, Result, Ok, Err, codes, None, position}
+use Rattle.storage_model.specs.Count.{Count, Later, Rose}
+use Rattle.storage_model.specs.declared.ends.Halt.{Halt}
+use Rattle.storage_model.specs.declared.ends.Halt.TheVariants.{SinkFailed, OpenFault, PowerGone, BadImage}
+use Rattle.storage_model.specs.declared.plan.Plan.{Plan}
+use Rattle.array_edge.specs.Array.{ArrayState}
+use Rattle.io_edge.specs.Sink.{TookPart}
+use Rattle.intent_store.specs.Intent.{ShowsImage, shown_by}
+use Rattle.cqmmc_top.specs.declared.command.Command.{Command}
+use Rattle.cqmmc_top.specs.declared.command.Command.TheVariants.{Run}
+use Rattle.cqmmc_top.specs.declared.refusal.Refusal.{Refusal}
+use Rattle.cqmmc_top.specs.declared.refusal.Refusal.TheVariants.{Usage}
+use Rattle.cqmmc_top.specs.Answers.{IsRunRefused, is_past}
+use Rattle.cqmmc_top.specs.Opened.{HasSectors}
+use Rattle.cqmmc_top.specs.Print.{HasCause, Served}
+use Rattle.cqmmc_top.specs.Refusal.{status_of, refusal_text}
+use Rattle.cqmmc_top.specs.Serial.{after_jobs, ended, start}
+use Rattle.cqmmc_top.specs.Texts.{IsPlanOf, HasNoFaults}
+
+-- `run IMAGE REQUESTS FAULTS`
+pub record IsRun (words : List (List ℕ)) : Type 0 where
+  pub image : List ℕ
+  pub requests : List ℕ
+  pub faults : List ℕ
+  pub are : words ≡ codes "run" ∷ image ∷ requests ∷ faults ∷ []
+
+-- the words call the command
+abbrev pub IsCommand : Command → List (List ℕ) → Type 0
+IsCommand Run words = IsRun words
+
+-- the status of a run, by how it ended
+abbrev pub run_status : Result (Unit {0}) Halt → ℕ
+run_status (Ok done) = 0
+run_status (Err SinkFailed) = 5
+run_status (Err BadImage) = 6
+run_status (Err OpenFault) = 7
+run_status (Err PowerGone) = 8
+
+module _ {K : Type 0} (took : K → List ℕ → K → Type 0) (faults_of : K → Count) where
+  -- the line of a refusal was written and its status answered, or the sink failed within the line
+  pub record Says (refusal : Refusal) (out : K) (status : ℕ) (out' : K) : Type 0 where
+    pub later : Later (faults_of out) (faults_of out')
+    pub said : ((status ≡ status_of refusal) × took out (refusal_text refusal) out') ⊎ ((status ≡ 5) × TookPart took out (refusal_text refusal) out' × Rose (faults_of out) (faults_of out'))
+
+  -- a run was refused: by a cause, and the image shows what it showed
+  pub record IsRefusedRun (requests : Option (List ℕ)) (first first' : Count) (faults : Option (List ℕ)) (second second' : Count) (old new : ArrayState) (out : K) (status : ℕ) (out' : K) : Type 0 where
+    pub refusal : Refusal
+    pub cause : IsRunRefused requests first first' faults second second' old new refusal
+    pub says : Says refusal out status out'
+    pub shown : shown_by new ≡ shown_by old
+    pub kept : ShowsImage old → ShowsImage new
+
+  -- the requests of a plan were served: the status says how that ended, the lines are the machine's from what the image
+  -- showed on, and what it shows then is the machine's contents or near them
+  pub record IsServed (requests faults : Option (List ℕ)) (old new : ArrayState) (out : K) (status : ℕ) (out' : K) : Type 0 where
+    pub plan : Plan
+    pub means : IsPlanOf requests plan
+    pub no_faults : HasNoFaults faults
+    pub image : ShowsImage old
+    pub sectors : ℕ
+    pub has_sectors : HasSectors old sectors
+    pub inside : position (is_past sectors) plan.jobs ≡ None
+    pub result : Result (Unit {0}) Halt
+    pub is : status ≡ run_status result
+    pub served : IfSome (shown_by old) (λ base. Served took plan.blocks out (start base plan.jobs) result (shown_by new) out' (ended (after_jobs plan.blocks base plan.jobs) (length plan.jobs + 1)))
+    pub cause : HasCause (faults_of out) (faults_of out') old new result
+
+  -- a run is refused, or its requests are served
+  abbrev pub RunAnswers : Option (List ℕ) → Count → Count → Option (List ℕ) → Count → Count → ArrayState → ArrayState → K → ℕ → K → Type 0
+  RunAnswers requests first first' faults second second' old new out status out' =
+    IsRefusedRun requests first first' faults second second' old new out status out' ⊎ IsServed requests faults old new out status out'
+
+  -- words that call nothing are told the usage and touch nothing
+  pub record IsUsage (words : List (List ℕ)) (old new : ArrayState) (out : K) (status : ℕ) (out' : K) : Type 0 where
+    pub no_form : (command : Command) → IsCommand command words → ⊥
+    pub says : Says Usage out status out'
+    pub same : new ≡ old
+
+  -- the words call a run, and it answers
+  pub record IsAnsweredRun (words : List (List ℕ)) (requests : Option (List ℕ)) (first first' : Count) (faults : Option (List ℕ)) (second second' : Count) (old new : ArrayState) (out : K) (status : ℕ) (out' : K) : Type 0 where
+    pub form : IsRun words
+    pub answers : RunAnswers requests first first' faults second second' old new out status out'
+
+  abbrev pub Answers : List (List ℕ) → Option (List ℕ) → Count → Count → Option (List ℕ) → Count → Count → ArrayState → ArrayState → K → ℕ → K → Type 0
+  Answers words requests first first' faults second second' old new out status out' =
+    IsUsage words old new out status out' ⊎ IsAnsweredRun words requests first first' faults second second' old new out status out'
