@@ -44,6 +44,29 @@ mod tests {
     }
 
     #[test]
+    fn every_field_of_a_task_descriptor(rt: HostRuntime) {
+        let write = TaskDesc {
+            int: false,
+            forced: true,
+            context: 9,
+            tag: false,
+            read: false,
+            high: true,
+            barrier: false,
+            reliable: true,
+            blocks: 0x0201,
+            start: 0x89ab_cdef,
+        };
+        assert!(rt; write_task(&write) == 0x89ab_cdef_0201_a4eb);
+        let tagged = TaskDesc {
+            tag: true,
+            barrier: true,
+            ..write
+        };
+        assert!(rt; read_task(0x89ab_cdef_0201_eceb) == Ok(tagged));
+    }
+
+    #[test]
     fn the_direct_command_of_a_flush_and_of_a_barrier(rt: HostRuntime) {
         let flush = DirectDesc {
             int: true,
@@ -60,6 +83,15 @@ mod tests {
         };
         assert!(rt; read_direct(0x0320_0201_0186_402f) == Ok(barrier));
         assert!(rt; read_direct(0x0320_0201_0086_402f) == Err(DescFault::BadAct));
+        let status = DirectDesc {
+            int: false,
+            barrier: true,
+            index: 13,
+            timing: true,
+            resp: 2,
+            arg: 0x0001_8000,
+        };
+        assert!(rt; write_direct(&status) == 0x0001_8000_014d_402b);
     }
 
     #[test]
