@@ -84,6 +84,7 @@ impl TaskQueue {
     pub fn address(&mut self, start: u32) -> Result<u8, QueueRefusal>
         ensures answer { result ≡ address_answer self.old }
         ensures after { self.new ≡ addressed self.old start }
+        ensures unready { IfOk result (λ task. ¬ IsReady self.new task) }
     {
         let Some(task) = self.waiting else {
             return Err(QueueRefusal::NoParams);
