@@ -1,4 +1,4 @@
-ghost use Rattle.std.specs.Prelude.{◌≡◌, ◌<◌, ◌≤◌, ◌==◌, ◌↔◌, ℕ, Some, None, IfOk, IfSome, IsTrue, OnOk, OnErr, length, replicate};
+ghost use Rattle.std.specs.Prelude.{◌≡◌, ◌≤◌, ◌↔◌, ℕ, Some, None, IfOk, IfSome, OnOk, OnErr, length, replicate};
 ghost use Rattle.std.specs.Int.{bit_at};
 ghost use Rattle.task_queue.specs.Queue.{slot, empty, params_answer, address_answer, addressed, take_answer, taken, discarded, ready_word, queued_word, IsReady};
 
