@@ -1,6 +1,6 @@
 //! The parts of the commands' arguments (JESD84-B51, section 6.10.4).
-ghost use Rattle.std.specs.Prelude.{◌≡◌, ◌<◌, ◌≤◌, ◌^◌, IsTrue, length};
-ghost use Rattle.cq_words.specs.Table.{Fits, Holds, is_in_word, is_set, is_table, number_in, word_with};
+ghost use Rattle.std.specs.Prelude.{◌≡◌, IsTrue};
+ghost use Rattle.cq_words.specs.Table.{is_table, word_with};
 ghost use Rattle.cmd_words.specs.Argument.{ends_below_32};
 
 use cq_words::{BitField, FieldValue};

@@ -1,5 +1,5 @@
--- SWITCH (CMD6), the command that writes the extended CSD (JESD84-B51, sections 6.6 and 7.4).
-use Rattle.std.specs.Prelude.{ℕ, ◌-◌, ◌==◌, Bool, true, false, ◌&&◌, Option, Some, None, if◌then◌else◌, bit_and, bit_or, find, option_and_then}
+-- SWITCH (CMD6), the command that writes the extended CSD (JESD84-B51, sections 6.10.4 and 7.4).
+use Rattle.std.specs.Prelude.{◌≡◌, ◌≢◌, ℕ, ◌-◌, ◌==◌, Bool, true, false, ◌&&◌, Option, Some, None, if◌then◌else◌, bit_and, bit_or, find, option_and_then}
 use Rattle.std.specs.Option.{option_map}
 use Rattle.cq_words.specs.Table.{number_in}
 use Rattle.ext_csd.specs.declared.csd.ExtCsd.{ExtCsd}
@@ -53,3 +53,14 @@ switched csd arg =
     option_and_then
     (λ field. option_and_then (accepted csd field) (written (number_in arg ACCESS) (value_of csd field) (number_in arg VALUE)))
     (writable_at (number_in arg INDEX))
+
+-- the field at the argument's index reads as its new value, but for FLUSH_CACHE, which always reads as 0
+abbrev pub ReadsNew : ExtCsd → ℕ → ExtCsd → Type 0
+ReadsNew old arg new =
+    (field : Field) → (row_of field).index ≡ number_in arg INDEX → field ≢ FlushCache
+    → written (number_in arg ACCESS) (value_of old field) (number_in arg VALUE) ≡ Some (value_of new field)
+
+-- every field at another index reads as before
+abbrev pub KeepsOthers : ExtCsd → ℕ → ExtCsd → Type 0
+KeepsOthers old arg new =
+    (field : Field) → (row_of field).index ≢ number_in arg INDEX → value_of new field ≡ value_of old field

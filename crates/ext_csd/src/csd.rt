@@ -1,6 +1,6 @@
-ghost use Rattle.std.specs.Prelude.{◌≡◌, ◌≤◌, ◌↔◌, true, false, Some, None, IsErr, IfOk, OnErr};
+ghost use Rattle.std.specs.Prelude.{◌≡◌, ◌≤◌, ◌↔◌, true, false, Some, None, IsErr, IfOk, OnOk, OnErr};
 ghost use Rattle.ext_csd.specs.Values.{value_of, fresh, powered_off};
-ghost use Rattle.ext_csd.specs.Switch.{switched, accepted};
+ghost use Rattle.ext_csd.specs.Switch.{switched, accepted, ReadsNew, KeepsOthers};
 
 use crate::switch::{ACCESS, INDEX, VALUE, part_of, writable_at, written};
 use crate::{Change, Field, Reading, SwitchError};
@@ -69,8 +69,20 @@ impl ExtCsd {
     ///
     /// With `Change::CacheOff` the cache is off in `self` already. As the cache is flushed first and stays on where that
     /// fails, the card switches a copy of its extended CSD, flushes, and takes the copy over once the flush has succeeded.
-    #[tactic(auto, unfolding(crate::specs::Switch::switched))]
     pub fn switch(&mut self, arg: u32) -> Result<Change, SwitchError>
+        ensures ok { IfOk result (λ change. switched self.old arg ≡ Some (record { csd = self.new; change = change })) }
+        ensures refused { IsErr result ↔ (switched self.old arg ≡ None) }
+        ensures err { OnErr result (self.new ≡ self.old) }
+        ensures cache_off { (result ≡ Ok Change.CacheOff) ↔ ((self.old.cache ≡ true) × (self.new.cache ≡ false)) }
+        ensures reads { OnOk result (ReadsNew self.old arg self.new) }
+        ensures others { KeepsOthers self.old arg self.new }
+    {
+        self.carry_out(arg)
+    }
+
+    // Carries out a SWITCH, by its definition.
+    #[tactic(auto, unfolding(crate::specs::Switch::switched))]
+    fn carry_out(&mut self, arg: u32) -> Result<Change, SwitchError>
         ensures ok { IfOk result (λ change. switched self.old arg ≡ Some (record { csd = self.new; change = change })) }
         ensures refused { IsErr result ↔ (switched self.old arg ≡ None) }
         ensures err { OnErr result (self.new ≡ self.old) }

@@ -1,5 +1,5 @@
-// The table of the fields (JESD84-B51, section 7.4). Linux names the same indices EXT_CSD_CMDQ_MODE_EN, EXT_CSD_BARRIER_EN,
-// EXT_CSD_FLUSH_CACHE, EXT_CSD_CACHE_CTRL and so on (include/linux/mmc/mmc.h).
+// The table of the fields (JESD84-B51, section 7.4). Linux has the names of those that it uses in include/linux/mmc/mmc.h, as
+// EXT_CSD_CMDQ_MODE_EN, EXT_CSD_FLUSH_CACHE and EXT_CSD_CACHE_CTRL.
 ghost use Rattle.std.specs.Prelude.{◌≡◌, ◌<◌};
 ghost use Rattle.ext_csd.specs.Table.{place, row_of, name_of};
 

@@ -33,7 +33,9 @@ pub const VALUE: BitField = BitField { low: 8, width: 8 };
 
 /// The accesses; in Linux MMC_SWITCH_MODE_SET_BITS, MMC_SWITCH_MODE_CLEAR_BITS and MMC_SWITCH_MODE_WRITE_BYTE.
 pub const SET_BITS: u32 = 1;
+
 pub const CLEAR_BITS: u32 = 2;
+
 pub const WRITE_BYTE: u32 = 3;
 
 // What the argument has in one of these fields.

@@ -1,4 +1,4 @@
-ghost use Rattle.std.specs.Prelude.{◌≡◌, ◌<◌, ◌≤◌, ◌==◌, ◌↔◌, ℕ, Some, None, IfOk, IfSome, IsTrue, OnOk, OnErr, length, replicate};
+ghost use Rattle.std.specs.Prelude.{◌≡◌, ◌≤◌, ◌↔◌, ℕ, Some, None, IfOk, IfSome, OnOk, OnErr, length, replicate};
 ghost use Rattle.std.specs.Int.{bit_at};
 ghost use Rattle.task_queue.specs.Queue.{slot, empty, params_answer, address_answer, addressed, take_answer, taken, discarded, ready_word, queued_word, IsReady};
 
@@ -84,6 +84,7 @@ impl TaskQueue {
     pub fn address(&mut self, start: u32) -> Result<u8, QueueRefusal>
         ensures answer { result ≡ address_answer self.old }
         ensures after { self.new ≡ addressed self.old start }
+        ensures unready { IfOk result (λ task. ¬ IsReady self.new task) }
     {
         let Some(task) = self.waiting else {
             return Err(QueueRefusal::NoParams);
