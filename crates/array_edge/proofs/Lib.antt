@@ -3,3 +3,4 @@ pub mod Torn
 pub mod Meetings
 pub mod Scripted
 pub mod Reached
+pub mod Runs

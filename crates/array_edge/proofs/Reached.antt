@@ -1,11 +1,11 @@
 -- How many faults were reached.
-use Rattle.std.proofs.Common.{IfSome, ◌≡◌, ◌≢◌, ℕ, zero, suc, ◌+◌, ◌-◌, ◌<◌, ◌≤◌, ◌^◌, ◌&&◌, ◌==◌, Bool, true, false, not, List, [], ◌∷◌, Option, Some, None, min, cond, refl, sym, ap, ◌∙◌, arith, nat_le}
+use Rattle.std.proofs.Common.{IfSome, ◌≡◌, ℕ, ◌+◌, ◌<◌, ◌≤◌, ◌^◌, ◌&&◌, Bool, true, false, not, List, [], ◌∷◌, Option, Some, None, cond, refl, sym, ap, ◌∙◌, arith, nat_le}
 use Rattle.std.proofs.lemmas.Bool.{false≢true, true≢false, leb-true, le-leb, lt-leb}
 use Rattle.std.proofs.lemmas.List.Sums.{sum_by-cons}
 use Rattle.std.specs.List.{count_by, find}
 use Rattle.std.specs.Bool.{if◌then◌else◌}
 use Rattle.storage_model.specs.declared.faults.ArrayHit.{ArrayHit}
-use Rattle.array_edge.specs.Hits.{IsValidHit, hit_of, is_hit, is_reached, raised, reached_cuts, reached_fails}
+use Rattle.array_edge.specs.Hits.{IsValidHit, hit_of, is_hit, is_reached, raised, reached_fails}
 use Rattle.array_edge.specs.Script.{HasRoom, IsWithinHits}
 
 one_le : (b c : Bool) → (b ≡ true → c ≡ true) → cond b 1 0 ≤ cond c 1 0
@@ -98,4 +98,5 @@ room_program (Some hit) hits faults cuts p p' f next le is valid within =
     let now = program_now hit.fetch hit.n p' f valid.kind valid.called in
     record {
       fails = λ uncut. (let more = reached_now (λ h. not h.cut) hits hit false p' p p' f f le (omega arith) before now (sym is) (ap not uncut) in omega (arith, more, within.faults_made));
-      cut = λ is_cut. (let more = reached_now (λ h. h.cut) hits hit false p' p p' f f le (omega arith) before now (sym is) is_cut in omega (arith, more, within.cuts_made)) }
+      cut = λ is_cut. (let more = reached_now (λ h. h.cut) hits hit false p' p p' f f le (omega arith) before now (sym is) is_cut in omega (arith, more, within.cuts_made));
+    }

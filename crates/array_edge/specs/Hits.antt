@@ -57,3 +57,7 @@ reached_fails programs fetches hits = count_by (λ hit. is_reached programs fetc
 -- how many cuts were reached
 abbrev pub reached_cuts : ℕ → ℕ → List ArrayHit → ℕ
 reached_cuts programs fetches hits = count_by (λ hit. is_reached programs fetches hit && hit.cut) hits
+
+-- how many failing fetches were reached
+abbrev pub reached_fetches : ℕ → List ArrayHit → ℕ
+reached_fetches fetches hits = count_by (λ hit. nat_le hit.n fetches && hit.fetch) hits

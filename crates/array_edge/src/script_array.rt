@@ -1,7 +1,7 @@
-ghost use Rattle.std.specs.Prelude.{IfSome, ◌≡◌, ◌<◌, ◌⊎◌, true, false, Err, Ok, OnErr, OnOk};
+ghost use Rattle.std.specs.Prelude.{IfSome, ◌≡◌, ◌<◌, ◌^◌, ◌⊎◌, true, false, Err, Ok, OnErr, OnOk};
 ghost use Rattle.storage_model.specs.Count.{RaisedByOne};
 ghost use Rattle.array_edge.specs.Array.{Ends, Fetched, HasPage, IsTorn, Programmed, Settled, with_page};
-ghost use Rattle.array_edge.specs.Hits.{IsPast, IsValidArrayHits, hit_of, raised, reached_fails};
+ghost use Rattle.array_edge.specs.Hits.{IsPast, IsValidArrayHits, IsValidHit, hit_of, raised, reached_fails};
 ghost use Rattle.array_edge.specs.declared.array.ArrayEnd.TheVariants.{Failed};
 ghost use Rattle.array_edge.specs.Script.{HasRoom, IsBroken, IsKept, IsUnread, IsWithinHits, Script, ScriptFetched, ScriptProgrammed, after_hit, end_of_hit, script_over};
 
@@ -65,6 +65,7 @@ impl<A: Array> ScriptArray<A> {
     fn next_fetch(&mut self) -> Option<ArrayHit>
         ensures met { result ≡ hit_of self.old.hits true (raised self.old.fetches) }
         ensures counted { self.new ≡ record self.old { fetches = raised self.old.fetches } }
+        ensures hit { IfSome result (λ hit. IsValidHit true (raised self.old.fetches) hit) }
         ensures room { IfSome result (λ _. self.new.faults < reached_fails self.new.programs self.new.fetches self.new.hits) }
     {
         self.fetches = self.fetches.saturating_add(1);
@@ -153,6 +154,7 @@ impl<A: Array> ScriptArray<A> {
         requires on { self.old.powered ≡ true }
         ensures fetched { Fetched (A.state self.old.inner) page seen.new (A.state self.new.inner) result }
         ensures failed { OnErr result (result ≡ Err Failed) }
+        ensures counter { self.old.fetches < 2 ^ 64 }
         ensures power { (A.state self.new.inner).powered ≡ true }
         ensures after { self.new ≡ record self.old { inner = self.new.inner } }
     {
@@ -191,6 +193,8 @@ impl<A: Array> Array for ScriptArray<A> {
         ensures same { script_over A.state self.new ≡ record (script_over A.state self.old) { faults = (script_over A.state self.new).faults; fetches = (script_over A.state self.new).fetches } }
         ensures number { (script_over A.state self.old).powered ≡ true → RaisedByOne (script_over A.state self.old).fetches (script_over A.state self.new).fetches }
         ensures ends { Ends (script_over A.state self.old) (script_over A.state self.new) result }
+        ensures counter { self.old.fetches < 2 ^ 64 }
+        ensures power { self.old.powered ≡ true → (A.state self.old.inner).powered ≡ true }
         ensures met { self.old.powered ≡ true → ScriptFetched A.state (hit_of self.old.hits true (raised self.old.fetches)) self.old page block.new self.new result }
         ensures kept { self.old.powered ≡ false → self.new ≡ self.old }
     {
@@ -207,6 +211,7 @@ impl<A: Array> Array for ScriptArray<A> {
         ensures same { script_over A.state self.new ≡ record (script_over A.state self.new) { count = (script_over A.state self.old).count; fetches = (script_over A.state self.old).fetches } }
         ensures number { (script_over A.state self.old).powered ≡ true → RaisedByOne (script_over A.state self.old).programs (script_over A.state self.new).programs }
         ensures ends { Ends (script_over A.state self.old) (script_over A.state self.new) result }
+        ensures power { self.old.powered ≡ true → (A.state self.old.inner).powered ≡ true }
         ensures met { self.old.powered ≡ true → ScriptProgrammed A.state (hit_of self.old.hits false (raised self.old.programs)) self.old page block.now self.new result }
         ensures kept { self.old.powered ≡ false → self.new ≡ self.old }
     {

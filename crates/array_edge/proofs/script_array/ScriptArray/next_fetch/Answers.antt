@@ -8,7 +8,8 @@ invariant_of-self g c = record {
   within = within_later c.self.inside.hits c.self.inside.faults c.self.inside.cuts c.self.inside.programs c.self.inside.programs c.self.inside.fetches c.saturating_add-self-inside.result (omega arith) (omega arith) c.self.invariant.within;
   power = c.self.invariant.power;
   past_programs = c.self.invariant.past_programs;
-  past_fetches = rw c.as_slice.ensures at c.meet_hit.ensures.past }
+  past_fetches = rw c.as_slice.ensures at c.meet_hit.ensures.past;
+}
 
 pub returns-clause-room : goal.returns-clause-room
 returns-clause-room g c = room_fetch c.meet_hit.result c.self.inside.hits c.self.inside.faults c.self.inside.cuts c.self.inside.programs c.self.inside.fetches c.saturating_add-self-inside.result
