@@ -2,3 +2,5 @@ pub mod GranuleWrites
 pub mod Torn
 pub mod Meetings
 pub mod Scripted
+pub mod Reached
+pub mod Runs

@@ -1,8 +1,8 @@
 -- The faults that an array is told beforehand: which call each of them befalls, and what a program leaves then.
-use Rattle.std.specs.Prelude.{All, slice_index_or, length, true, false, ◌≤◌, ◌≡◌, ℕ, ◌+◌, ◌-◌, ◌<◌, ◌^◌, ◌==◌, ◌&&◌, Bool, if◌then◌else◌, List, Option, min}
-use Rattle.std.specs.Bool.{beq}
+use Rattle.std.specs.Prelude.{All, slice_index_or, length, true, false, ◌≤◌, ◌≡◌, ℕ, ◌+◌, ◌-◌, ◌<◌, ◌^◌, ◌==◌, ◌&&◌, Bool, not, if◌then◌else◌, List, Option, min}
+use Rattle.std.specs.Bool.{beq, nat_le}
 use Rattle.std.specs.Int.{bit_at}
-use Rattle.std.specs.List.{AllPairs, find}
+use Rattle.std.specs.List.{AllPairs, count_by, find}
 use Rattle.storage_model.specs.Count.{Count}
 use Rattle.storage_model.specs.Granule.{granule}
 use Rattle.storage_model.specs.declared.block.Block.{Block}
@@ -34,7 +34,30 @@ pub record IsValidArrayHits (hits : List ArrayHit) : Type 0 where
   pub rising : AllPairs (λ hit later. hit.fetch ≡ later.fetch → hit.n < later.n) hits
   pub uncut : All (λ hit. hit.fetch ≡ true → hit.cut ≡ false) hits
 
+-- a fault of such a call, from a valid list
+pub record IsValidHit (fetch : Bool) (number : ℕ) (hit : ArrayHit) : Type 0 where
+  pub kind : hit.fetch ≡ fetch
+  pub called : hit.n ≡ number
+  pub small : hit.n < 2 ^ 32
+  pub uncut : fetch ≡ true → hit.cut ≡ false
+
 -- a place in the list, before which each fault of a fetch (or of a program) has a smaller number
 pub record IsPast (hits : List ArrayHit) (fetch : Bool) (number place : ℕ) : Type 0 where
   pub within : place ≤ length hits
   pub before : (k : ℕ) (none : ArrayHit) → k < place → (slice_index_or hits k none).fetch ≡ fetch → (slice_index_or hits k none).n < number
+
+-- the call that the fault names was made, by how many programs and fetches there were
+abbrev pub is_reached : ℕ → ℕ → ArrayHit → Bool
+is_reached programs fetches hit = nat_le hit.n (if hit.fetch then fetches else programs)
+
+-- how many failing calls were reached
+abbrev pub reached_fails : ℕ → ℕ → List ArrayHit → ℕ
+reached_fails programs fetches hits = count_by (λ hit. is_reached programs fetches hit && not hit.cut) hits
+
+-- how many cuts were reached
+abbrev pub reached_cuts : ℕ → ℕ → List ArrayHit → ℕ
+reached_cuts programs fetches hits = count_by (λ hit. is_reached programs fetches hit && hit.cut) hits
+
+-- how many failing fetches were reached
+abbrev pub reached_fetches : ℕ → List ArrayHit → ℕ
+reached_fetches fetches hits = count_by (λ hit. nat_le hit.n fetches && hit.fetch) hits

@@ -1,11 +1,11 @@
 -- An array over which faults are scripted. Exactly the calls with the listed numbers fail or are cut, and all others go
 -- to the inner array.
-use Rattle.std.specs.Prelude.{◌≡◌, ◌⊎◌, ℕ, ◌+◌, ◌-◌, ◌^◌, ◌==◌, ◌||◌, Bool, true, false, List, Option, Some, None, Result, Ok, Err, if◌then◌else◌, not, ◌&&◌}
+use Rattle.std.specs.Prelude.{◌≡◌, ◌⊎◌, ℕ, ◌+◌, ◌-◌, ◌<◌, ◌≤◌, ◌^◌, ◌==◌, ◌||◌, Bool, true, false, List, Option, Some, None, Result, Ok, Err, if◌then◌else◌, not, ◌&&◌}
 use Rattle.storage_model.specs.Count.{Count}
 use Rattle.storage_model.specs.declared.block.Block.{Block}
 use Rattle.storage_model.specs.declared.faults.ArrayHit.{ArrayHit}
 use Rattle.array_edge.specs.Array.{ArrayState, Fetched, Programmed}
-use Rattle.array_edge.specs.Hits.{IsMasked, IsPast, IsValidArrayHits, count_of, raised}
+use Rattle.array_edge.specs.Hits.{IsMasked, IsPast, IsValidArrayHits, IsValidHit, reached_fetches, count_of, raised, reached_cuts, reached_fails}
 use Rattle.array_edge.specs.declared.array.ArrayEnd.{ArrayEnd}
 use Rattle.array_edge.specs.declared.array.ArrayEnd.TheVariants.{Failed, PowerLost}
 
@@ -32,7 +32,7 @@ abbrev pub ScriptFetched : {A : Type 0} → (A → ArrayState) → Option ArrayH
 ScriptFetched state None old page block new result =
     Fetched (state old.inner) page block (state new.inner) result × (new ≡ record old { inner = new.inner; fetches = raised old.fetches })
 ScriptFetched state (Some hit) old page block new result =
-    (result ≡ Err Failed) × (new ≡ record old { fetches = raised old.fetches; faults = raised old.faults })
+    IsValidHit true (raised old.fetches) hit × (result ≡ Err Failed) × (new ≡ record old { fetches = raised old.fetches; faults = raised old.faults })
 
 -- how a program ends that a fault befalls, by the answer of the inner program
 abbrev pub end_of_hit : ArrayHit → Result (Unit {0}) ArrayEnd → Result (Unit {0}) ArrayEnd
@@ -71,9 +71,26 @@ ScriptProgrammed state None old page block new result =
 ScriptProgrammed state (Some hit) old page block new result =
     IsUnread state (record old { programs = raised old.programs }) page new result ⊎ IsBroken state hit (record old { programs = raised old.programs }) page block new result
 
+-- the script made no more faults than it reached
+pub record IsWithinHits (hits : List ArrayHit) (faults cuts programs fetches : ℕ) : Type 0 where
+  pub faults_made : faults ≤ reached_fails programs fetches hits
+  pub cuts_made : cuts ≤ reached_cuts programs fetches hits
+
+-- a fault that was reached and is not counted yet
+pub record HasRoom (hit : ArrayHit) (hits : List ArrayHit) (faults cuts programs fetches : ℕ) : Type 0 where
+  pub fails : hit.cut ≡ false → faults < reached_fails programs fetches hits
+  pub cut : hit.cut ≡ true → cuts < reached_cuts programs fetches hits
+
 -- what every script keeps
-pub record IsKept (inner : ArrayState) (hits : List ArrayHit) (powered : Bool) (program_place fetch_place programs fetches : ℕ) : Type 0 where
+pub record IsKept (inner : ArrayState) (hits : List ArrayHit) (powered : Bool) (program_place fetch_place faults cuts programs fetches : ℕ) : Type 0 where
   pub valid : IsValidArrayHits hits
+  pub within : IsWithinHits hits faults cuts programs fetches
   pub power : powered ≡ true → inner.powered ≡ true
   pub past_programs : IsPast hits false programs program_place
   pub past_fetches : IsPast hits true fetches fetch_place
+
+-- How far the calls came, by what the inner array was when they began. Where no count of it stands, they made no more
+-- programs than its programs and faults rose, and no more fetches than its fetches rose and fetches of the list failed.
+pub record HasRun (start now : ArrayState) (hits : List ArrayHit) (programs fetches : ℕ) : Type 0 where
+  pub by_programs : now.programs.stands ≡ false → now.faults.stands ≡ false → start.programs.value + start.faults.value + programs ≤ now.programs.value + now.faults.value
+  pub by_fetches : now.fetches.stands ≡ false → start.fetches.value + fetches ≤ now.fetches.value + reached_fetches fetches hits

@@ -1,7 +1,7 @@
 // Which fault befalls a call, and what it leaves of a page.
-ghost use Rattle.std.specs.Prelude.{◌≡◌, ◌≢◌, ◌<◌, ℕ};
+ghost use Rattle.std.specs.Prelude.{IfSome, ◌≡◌, ◌≢◌, ◌<◌, ℕ};
 ghost use Rattle.storage_model.specs.Granule.{granule};
-ghost use Rattle.array_edge.specs.Hits.{IsMasked, IsPast, IsValidArrayHits, hit_of, is_hit};
+ghost use Rattle.array_edge.specs.Hits.{IsMasked, IsPast, IsValidArrayHits, IsValidHit, hit_of, is_hit};
 
 use storage_model::{ArrayHit, ArrayHits, Block};
 
@@ -26,6 +26,7 @@ pub(crate) fn meet_hit(
     requires past { IsPast hits.now fetch number place.old }
     ensures past { IsPast hits.now fetch number place.new }
     ensures met { result ≡ hit_of hits.now fetch number }
+    ensures hit { IfSome result (λ hit. IsValidHit fetch number hit) }
 {
     while *place < hits.len() {
         let hit = hits[*place];

@@ -5,11 +5,13 @@ mod array;
 mod file_array;
 mod hits;
 mod mem_array;
+mod run_array;
 mod script_array;
 
 pub use array::{Array, ArrayEnd};
 pub use file_array::FileArray;
 pub use mem_array::MemArray;
+pub use run_array::{RunArray, RunStart};
 pub use script_array::ScriptArray;
 
 #[cfg(test)]

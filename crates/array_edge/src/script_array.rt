@@ -1,9 +1,9 @@
-ghost use Rattle.std.specs.Prelude.{◌≡◌, ◌<◌, ◌⊎◌, true, false, Err, Ok, OnErr, OnOk};
+ghost use Rattle.std.specs.Prelude.{IfSome, ◌≡◌, ◌<◌, ◌^◌, ◌⊎◌, true, false, Err, Ok, OnErr, OnOk};
 ghost use Rattle.storage_model.specs.Count.{RaisedByOne};
 ghost use Rattle.array_edge.specs.Array.{Ends, Fetched, HasPage, IsTorn, Programmed, Settled, with_page};
-ghost use Rattle.array_edge.specs.Hits.{IsPast, IsValidArrayHits, hit_of, raised};
+ghost use Rattle.array_edge.specs.Hits.{IsPast, IsValidArrayHits, IsValidHit, hit_of, raised, reached_fails};
 ghost use Rattle.array_edge.specs.declared.array.ArrayEnd.TheVariants.{Failed};
-ghost use Rattle.array_edge.specs.Script.{IsBroken, IsKept, IsUnread, Script, ScriptFetched, ScriptProgrammed, after_hit, end_of_hit, script_over};
+ghost use Rattle.array_edge.specs.Script.{HasRoom, IsBroken, IsKept, IsUnread, IsWithinHits, Script, ScriptFetched, ScriptProgrammed, after_hit, end_of_hit, script_over};
 
 use crate::array::{Array, ArrayEnd};
 use crate::hits::{masked, meet_hit};
@@ -30,7 +30,7 @@ impl<A: Array> Model for ScriptArray<A> {
 
     ghost view = { λ s. record { inner = s.inner; hits = s.hits; powered = s.powered; faults = s.faults; cuts = s.cuts; programs = s.programs; fetches = s.fetches } };
 
-    ghost invariant = { λ s. IsKept (A.state s.inner) s.hits s.powered s.program_place s.fetch_place s.programs s.fetches };
+    ghost invariant = { λ s. IsKept (A.state s.inner) s.hits s.powered s.program_place s.fetch_place s.faults s.cuts s.programs s.fetches };
 }
 
 impl<A: Array> ScriptArray<A> {
@@ -55,7 +55,8 @@ impl<A: Array> ScriptArray<A> {
 
     /// The inner array as it is now.
     pub fn back(self) -> A
-        ensures { result ≡ self.inner }
+        ensures inner { result ≡ self.inner }
+        ensures within { IsWithinHits self.hits self.faults self.cuts self.programs self.fetches }
     {
         self.inner
     }
@@ -64,6 +65,8 @@ impl<A: Array> ScriptArray<A> {
     fn next_fetch(&mut self) -> Option<ArrayHit>
         ensures met { result ≡ hit_of self.old.hits true (raised self.old.fetches) }
         ensures counted { self.new ≡ record self.old { fetches = raised self.old.fetches } }
+        ensures hit { IfSome result (λ hit. IsValidHit true (raised self.old.fetches) hit) }
+        ensures room { IfSome result (λ _. self.new.faults < reached_fails self.new.programs self.new.fetches self.new.hits) }
     {
         self.fetches = self.fetches.saturating_add(1);
         meet_hit(
@@ -78,6 +81,7 @@ impl<A: Array> ScriptArray<A> {
     fn next_program(&mut self) -> Option<ArrayHit>
         ensures met { result ≡ hit_of self.old.hits false (raised self.old.programs) }
         ensures counted { self.new ≡ record self.old { programs = raised self.old.programs } }
+        ensures room { IfSome result (λ hit. HasRoom hit self.new.hits self.new.faults self.new.cuts self.new.programs self.new.fetches) }
     {
         self.programs = self.programs.saturating_add(1);
         meet_hit(
@@ -92,11 +96,13 @@ impl<A: Array> ScriptArray<A> {
         requires page { page < (A.state self.old.inner).count }
         ensures { ScriptFetched A.state (hit_of self.old.hits true (raised self.old.fetches)) self.old page block.new self.new result }
     {
-        if self.next_fetch().is_some() {
-            self.faults = self.faults.saturating_add(1);
-            return Err(ArrayEnd::Failed);
+        match self.next_fetch() {
+            Some(_) => {
+                self.faults = self.faults.saturating_add(1);
+                Err(ArrayEnd::Failed)
+            }
+            None => self.inner.fetch(page, block),
         }
-        self.inner.fetch(page, block)
     }
 
     fn program_on(&mut self, page: u32, block: &Block) -> Result<(), ArrayEnd>
@@ -128,6 +134,7 @@ impl<A: Array> ScriptArray<A> {
     fn break_program(&mut self, hit: ArrayHit, page: u32, block: &Block) -> Result<(), ArrayEnd>
         requires page { page < (A.state self.old.inner).count }
         requires on { self.old.powered ≡ true }
+        requires room { HasRoom hit self.old.hits self.old.faults self.old.cuts self.old.programs self.old.fetches }
         ensures { IsUnread A.state self.old page self.new result ⊎ IsBroken A.state hit self.old page block.now self.new result }
     {
         let mut seen = Block([0; 512]);
@@ -147,6 +154,7 @@ impl<A: Array> ScriptArray<A> {
         requires on { self.old.powered ≡ true }
         ensures fetched { Fetched (A.state self.old.inner) page seen.new (A.state self.new.inner) result }
         ensures failed { OnErr result (result ≡ Err Failed) }
+        ensures counter { self.old.fetches < 2 ^ 64 }
         ensures power { (A.state self.new.inner).powered ≡ true }
         ensures after { self.new ≡ record self.old { inner = self.new.inner } }
     {
@@ -155,6 +163,7 @@ impl<A: Array> ScriptArray<A> {
 
     // The end of a program that a fault befell.
     fn count_hit(&mut self, hit: ArrayHit) -> ArrayEnd
+        requires { HasRoom hit self.old.hits self.old.faults self.old.cuts self.old.programs self.old.fetches }
         ensures end { Err result ≡ end_of_hit hit (Ok tt) }
         ensures after { self.new ≡ after_hit hit (Ok tt) self.old }
     {
@@ -184,6 +193,8 @@ impl<A: Array> Array for ScriptArray<A> {
         ensures same { script_over A.state self.new ≡ record (script_over A.state self.old) { faults = (script_over A.state self.new).faults; fetches = (script_over A.state self.new).fetches } }
         ensures number { (script_over A.state self.old).powered ≡ true → RaisedByOne (script_over A.state self.old).fetches (script_over A.state self.new).fetches }
         ensures ends { Ends (script_over A.state self.old) (script_over A.state self.new) result }
+        ensures counter { self.old.fetches < 2 ^ 64 }
+        ensures power { self.old.powered ≡ true → (A.state self.old.inner).powered ≡ true }
         ensures met { self.old.powered ≡ true → ScriptFetched A.state (hit_of self.old.hits true (raised self.old.fetches)) self.old page block.new self.new result }
         ensures kept { self.old.powered ≡ false → self.new ≡ self.old }
     {
@@ -200,6 +211,7 @@ impl<A: Array> Array for ScriptArray<A> {
         ensures same { script_over A.state self.new ≡ record (script_over A.state self.new) { count = (script_over A.state self.old).count; fetches = (script_over A.state self.old).fetches } }
         ensures number { (script_over A.state self.old).powered ≡ true → RaisedByOne (script_over A.state self.old).programs (script_over A.state self.new).programs }
         ensures ends { Ends (script_over A.state self.old) (script_over A.state self.new) result }
+        ensures power { self.old.powered ≡ true → (A.state self.old.inner).powered ≡ true }
         ensures met { self.old.powered ≡ true → ScriptProgrammed A.state (hit_of self.old.hits false (raised self.old.programs)) self.old page block.now self.new result }
         ensures kept { self.old.powered ≡ false → self.new ≡ self.old }
     {

@@ -1,9 +1,12 @@
 ghost use Rattle.std.specs.Prelude.{◌≡◌, IfOk, length};
+ghost use Rattle.array_edge.specs.Hits.{IsValidArrayHits};
+ghost use Rattle.array_edge.specs.Script.{HasRun};
 
-use crate::{Array, ArrayEnd, FileArray, MemArray, ScriptArray};
+use crate::{Array, ArrayEnd, FileArray, MemArray, RunArray, RunStart, ScriptArray};
 use std::alloc::Global;
 use std::fs;
 use std::fs::File;
+use std::marker::Brand;
 use std::test::Fail;
 use storage_model::{ArrayHit, ArrayHits, Block, BlockList, NoMemory};
 
@@ -172,5 +175,42 @@ fn script_breaks(rt: HostRuntime) -> Result<(), Fail> {
     );
     assert_eq!(rt; (pages.at(0).0[255], pages.at(0).0[256]), (0xbb, 0));
     assert_eq!(rt; *pages.at(1), Block([0xaa; 512]));
+    Ok(())
+}
+
+// Generic work over any array.
+fn read_first<A: Array>(array: &mut A) {
+    let mut block = Block([0; 512]);
+    array.power_on();
+    if array.pages() > 0 {
+        let _ = array.fetch(0, &mut block);
+    }
+}
+
+fn run_script<A: Array, S: RunStart>(array: A, hits: ArrayHits) -> ScriptArray<A>
+    requires valid { IsValidArrayHits hits }
+    requires start { A.state array ≡ S.start }
+    ensures { HasRun S.start (A.state result.inner) result.hits result.programs result.fetches }
+{
+    let mut run: RunArray<A, S> = RunArray::over(ScriptArray::over(array, hits));
+    read_first(&mut run);
+    run.back()
+}
+
+fn run_from<A: Array>(array: A, hits: ArrayHits) -> ScriptArray<A>
+    requires { IsValidArrayHits hits }
+    ensures { HasRun (A.state array) (A.state result.inner) result.hits result.programs result.fetches }
+{
+    run_script::<A, Brand>(array, hits)
+}
+
+#[test]
+fn run_is_bounded(rt: HostRuntime) -> Result<(), Fail> {
+    let array = run_from(three(rt.alloc(), &[])?, ArrayHits::new(rt.alloc()));
+    let mut inner = array.back();
+    let mut block = Block([7; 512]);
+    assert_eq!(rt; inner.pages(), 3);
+    assert_eq!(rt; inner.fetch(0, &mut block), Ok(()));
+    assert_eq!(rt; block, Block([0; 512]));
     Ok(())
 }

@@ -1,0 +1,6 @@
+use Rattle.array_edge.proofs.Runs.{run_fetch}
+use Rattle.array_edge.proofs.run_array.RunArrayArray.fetch.Goals as goal
+
+pub invariant_of-self : goal.invariant_of-self
+invariant_of-self g c = run_fetch g.A.Array.state g.S.RunStart.start c.self.inside.script c.fetch.new.self c.args.page c.fetch.new.block c.fetch.result
+    c.fetch.ensures.counter c.fetch.ensures.power c.fetch.ensures.met c.fetch.ensures.kept c.self.invariant
