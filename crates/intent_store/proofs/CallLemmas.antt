@@ -1,15 +1,11 @@
 -- Calls one after the other.
-use Rattle.std.proofs.Common.{◌≡◌, Bool, true, false, List, [], ◌∷◌, ℕ, ◌+◌, refl, sym, ap, subst, ◌∙◌}
-use Rattle.std.specs.Prelude.{Option, Some, None, IfSome, IsSome, Result, Ok, Err, is_ok, IsErr, IsErrOf}
-use Rattle.storage_model.specs.declared.block.Block.{Block}
+use Rattle.std.proofs.Common.{◌≡◌, Bool, true, false, List, [], ◌∷◌, refl, sym, subst, ◌∙◌}
+use Rattle.std.specs.Prelude.{Option, Some, Result, Ok, Err, is_ok, IsErr}
 use Rattle.image_form.specs.declared.gate.Gate.{Gate}
 use Rattle.image_form.specs.declared.gate.Gate.TheVariants.{Shut}
 use Rattle.array_edge.specs.Array.{ArrayState}
-use Rattle.image_form.specs.Image.{PageCall, Fetch, IsImage, finishing, gate_at, opening}
-use Rattle.intent_store.specs.declared.ends.StartEnd.{StartEnd}
-use Rattle.intent_store.specs.declared.ends.StartEnd.TheVariants.{BadImage}
+use Rattle.image_form.specs.Image.{PageCall, finishing}
 use Rattle.intent_store.specs.declared.ends.StoreEnd.{StoreEnd}
-use Rattle.intent_store.specs.Intent.{Known, IsKnown, IntentStands}
 use Rattle.intent_store.specs.Calls.{IsCall, Makes, none, last, more}
 
 pub one_call : (call : PageCall) (old new : ArrayState) (result : Result (Unit {0}) StoreEnd) → IsCall call old new result
