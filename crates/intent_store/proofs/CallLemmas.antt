@@ -1,15 +1,11 @@
 -- Calls one after the other.
-use Rattle.std.proofs.Common.{◌≡◌, Bool, true, false, List, [], ◌∷◌, ℕ, ◌+◌, refl, sym, ap, subst, ◌∙◌}
-use Rattle.std.specs.Prelude.{Option, Some, None, IfSome, IsSome, Result, Ok, Err, is_ok, IsErr, IsErrOf}
-use Rattle.storage_model.specs.declared.block.Block.{Block}
+use Rattle.std.proofs.Common.{◌≡◌, Bool, true, false, List, [], ◌∷◌, refl, sym, subst, ◌∙◌}
+use Rattle.std.specs.Prelude.{Option, Some, Result, Ok, Err, is_ok, IsErr}
 use Rattle.image_form.specs.declared.gate.Gate.{Gate}
 use Rattle.image_form.specs.declared.gate.Gate.TheVariants.{Shut}
 use Rattle.array_edge.specs.Array.{ArrayState}
-use Rattle.image_form.specs.Image.{PageCall, Fetch, IsImage, finishing, gate_at, opening}
-use Rattle.intent_store.specs.declared.ends.StartEnd.{StartEnd}
-use Rattle.intent_store.specs.declared.ends.StartEnd.TheVariants.{BadImage}
+use Rattle.image_form.specs.Image.{PageCall, finishing}
 use Rattle.intent_store.specs.declared.ends.StoreEnd.{StoreEnd}
-use Rattle.intent_store.specs.Intent.{Known, IsKnown, IntentStands}
 use Rattle.intent_store.specs.Calls.{IsCall, Makes, none, last, more}
 
 pub one_call : (call : PageCall) (old new : ArrayState) (result : Result (Unit {0}) StoreEnd) → IsCall call old new result
@@ -39,44 +35,3 @@ no_calls gate found given old new e f shut same =
     let P : Gate → Type 0 = λ x. Makes (finishing x) old new true in
     let Q : ArrayState → Type 0 = λ a. Makes [] a new true in
     subst P g (subst Q same (none new))
-
--- an opening that found an image goes on with its gate
-some_calls : (pages : List Block) (known : Known) (gate : Option Gate) (old middle new : ArrayState) (ok : Bool) → known.gate ≡ gate
-    → IsSome gate → IsKnown known pages
-    → ((gate : Gate) → known.gate ≡ Some gate → Makes (finishing gate) middle new ok)
-    → ((rest : List PageCall) → Makes rest middle new ok → Makes (Fetch 0 ∷ Fetch 1 ∷ rest) old new ok)
-    → Makes (opening (gate_at pages)) old new ok
-some_calls pages known None old middle new ok e some is finish begin = cc
-some_calls pages known (Some gate) old middle new ok e some is finish begin =
-    let K : Option Gate → Type 0 = λ o. IfSome o (λ g. gate_at pages ≡ g) in
-    let there : gate_at pages ≡ gate = subst K e is.gate in
-    let P : Gate → Type 0 = λ g. Makes (opening g) old new ok in
-    subst P (sym there) (begin (finishing gate) (finish gate e))
-
-told_calls : (told : Option (List Block)) (known : Known) (old middle new : ArrayState) (ok : Bool)
-    → IfSome told (IsKnown known) → IsSome known.gate
-    → ((gate : Gate) → known.gate ≡ Some gate → Makes (finishing gate) middle new ok)
-    → ((rest : List PageCall) → Makes rest middle new ok → Makes (Fetch 0 ∷ Fetch 1 ∷ rest) old new ok)
-    → IfSome told (λ pages. IsImage pages → Makes (opening (gate_at pages)) old new ok)
-told_calls None known old middle new ok is some finish begin = tt
-told_calls (Some pages) known old middle new ok is some finish begin = λ image.
-    some_calls pages known known.gate old middle new ok refl some is finish begin
-
-pub found_calls : (told : Option (List Block)) (known : Known) (old middle new : ArrayState) (ok : Bool) → middle.told ≡ told
-    → IntentStands known middle → IsSome known.gate
-    → ((gate : Gate) → known.gate ≡ Some gate → Makes (finishing gate) middle new ok)
-    → ((rest : List PageCall) → Makes rest middle new ok → Makes (Fetch 0 ∷ Fetch 1 ∷ rest) old new ok)
-    → IfSome told (λ pages. IsImage pages → Makes (opening (gate_at pages)) old new ok)
-found_calls told known old middle new ok e is some finish begin =
-    let P : Option (List Block) → Type 0 = λ t. IfSome t (IsKnown known) in
-    told_calls told known old middle new ok (subst P e is.told) some finish begin
-
--- an opening that failed or was cut before it knew the image
-pub failed_calls : (told : Option (List Block)) (old new : ArrayState) (result : Result Known StartEnd) (ok : Bool) → IsErr result
-    → ok ≡ false → (IsErrOf result BadImage → IfSome told (λ pages. IsImage pages → ⊥))
-    → ((rest : List PageCall) → IsErr result → (IsErrOf result BadImage → ⊥) → Makes (Fetch 0 ∷ Fetch 1 ∷ rest) old new false)
-    → IfSome told (λ pages. IsImage pages → Makes (opening (gate_at pages)) old new ok)
-failed_calls None old new result ok err e bad failed = tt
-failed_calls (Some pages) old new result ok err e bad failed = λ image.
-    let P : Bool → Type 0 = λ b. Makes (opening (gate_at pages)) old new b in
-    subst P (sym e) (failed (finishing (gate_at pages)) err (λ f. bad f image))

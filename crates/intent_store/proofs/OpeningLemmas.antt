@@ -1,5 +1,5 @@
 -- What the first two pages of an array tell of an image.
-use Rattle.std.proofs.Common.{◌≡◌, ℕ, ◌+◌, ◌≤◌, List, length, refl, sym, ap, subst, ◌∙◌, arith}
+use Rattle.std.proofs.Common.{◌≡◌, ℕ, ◌+◌, ◌≤◌, List, length, refl, sym, subst, ◌∙◌, arith}
 use Rattle.std.specs.Prelude.{Option, Some, None, IfSome, IfOk, IsNone, IsErrOf, Result, Ok, Err, MatchOption}
 use Rattle.std.specs.Option.{ok_or}
 use Rattle.storage_model.specs.declared.block.Block.{Block}

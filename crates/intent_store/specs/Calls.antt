@@ -35,6 +35,6 @@ pub record IsCall (call : PageCall) (old new : ArrayState) (result : Result (Uni
 pub data Makes : List PageCall → ArrayState → ArrayState → Bool → Type 0 where
   none : (array : ArrayState) → Makes [] array array true
   last : (call : PageCall) (calls : List PageCall) (old new : ArrayState) (end : StoreEnd) → IsCall call old new (Err end)
-    → Makes (call ∷ calls) old new false
+      → Makes (call ∷ calls) old new false
   more : (call : PageCall) (calls : List PageCall) (old middle new : ArrayState) (ok : Bool) → IsCall call old middle (Ok tt)
-    → Makes calls middle new ok → Makes (call ∷ calls) old new ok
+      → Makes calls middle new ok → Makes (call ∷ calls) old new ok

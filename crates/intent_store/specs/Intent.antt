@@ -1,14 +1,10 @@
 -- What an intent store knows of an image, what an array shows through it, and how its calls end.
-use Rattle.std.specs.Prelude.{◌≡◌, ◌⊎◌, ◌≤◌, ℕ, ◌+◌, ◌==◌, true, false, List, Option, Some, None, IfSome, MatchOption, Result, Ok, Err, IsErrOf, OnOk, option_map, slice_set, if◌then◌else◌}
-use Rattle.std.specs.Option.{ForSome}
+use Rattle.std.specs.Prelude.{◌≡◌, ◌⊎◌, ◌≤◌, ℕ, ◌+◌, true, false, List, Option, IfSome, Result, Err, IsErrOf, OnOk, option_map}
 use Rattle.storage_model.specs.Count.{Later, Rose}
-use Rattle.storage_model.specs.Granule.{IsMix}
 use Rattle.storage_model.specs.declared.block.Block.{Block}
-use Rattle.array_edge.specs.Array.{ArrayState, with_page}
+use Rattle.array_edge.specs.Array.{ArrayState}
 use Rattle.image_form.specs.declared.gate.Gate.{Gate}
-use Rattle.image_form.specs.declared.gate.Gate.TheVariants.{Shut, Ajar}
-use Rattle.image_form.specs.Form.{IsSuper, IsGate, gate_number}
-use Rattle.image_form.specs.Image.{IsImage, sectors_of, gate_at, shown, page_at}
+use Rattle.image_form.specs.Image.{IsImage, sectors_of, gate_at, shown}
 use Rattle.intent_store.specs.declared.ends.StartEnd.{StartEnd}
 use Rattle.intent_store.specs.declared.ends.StartEnd.TheVariants.{Flash as StartFlash, PowerLost as StartPowerLost, BadImage}
 use Rattle.intent_store.specs.declared.ends.StoreEnd.{StoreEnd}

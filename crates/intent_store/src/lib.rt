@@ -8,3 +8,6 @@ mod pages;
 
 pub use ends::{StartEnd, StoreEnd};
 pub use intent::Intent;
+
+#[cfg(test)]
+mod tests;

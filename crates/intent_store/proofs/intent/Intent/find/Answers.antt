@@ -1,4 +1,4 @@
-use Rattle.std.proofs.Common.{rules, refl, ap, ◌∷◌, ◌≡◌, ℕ, List, sym, subst, ◌∙◌}
+use Rattle.std.proofs.Common.{rules, refl, ap, ◌∷◌, ℕ, List, sym, subst, ◌∙◌}
 use Rattle.image_form.specs.Image.{Fetch}
 use Rattle.intent_store.proofs.CallLemmas.{ended_call, next_call}
 use Rattle.std.specs.Prelude.{is_ok, Option, IfSome, IsNone}
