@@ -9,4 +9,5 @@ pub mod Passes
 pub mod Ramps
 pub mod Remains
 pub mod Scans
+pub mod Sources
 pub mod Splits
