@@ -32,6 +32,7 @@ pub fn keep(
     requires { All (IsWithin base.now) pend.now }
     ensures base { IfOk result (λ kept. kept.base ≡ keep_base (is_named first blocks) base.now pend.now) }
     ensures pend { IfOk result (λ kept. kept.pend ≡ keep_pend (is_named first blocks) pend.now) }
+    ensures now { IfOk result (λ kept. contents_now kept.base kept.pend ≡ contents_now base.now pend.now) }
 {
     let last = count_bars(pend);
     let mut contents = Vec::from_slice(alloc, base)?;
