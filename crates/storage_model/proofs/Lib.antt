@@ -4,6 +4,7 @@ pub mod Below
 pub mod Cuts
 pub mod Durable
 pub mod Keeps
+pub mod Latest
 pub mod Mixes
 pub mod Passes
 pub mod Ramps
