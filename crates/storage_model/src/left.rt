@@ -9,7 +9,8 @@ use crate::contents::count_bars;
 use crate::{Block, Mark};
 
 /// Whether a loss of power may leave `after` of the contents `base` under the marks `pend`: there is an epoch such that
-/// all before it are whole, and each sector is a mix of its value then and its puts in that epoch.
+/// all before it are whole, and each sector is a mix, by granules of 64 bytes, of its value then and its puts in that
+/// epoch, where a reliable put mixes with none before it (JESD84-B51, the cache, its barrier and reliable write).
 pub fn left_allows(base: &[Block], pend: &[Mark], after: &[Block]) -> bool
     requires { length after.now ≡ length base.now }
     ensures value { result ≡ is_left base.now pend.now after.now }
