@@ -4,9 +4,11 @@ pub mod Below
 pub mod Cuts
 pub mod Durable
 pub mod Keeps
+pub mod Latest
 pub mod Mixes
 pub mod Passes
 pub mod Ramps
 pub mod Remains
 pub mod Scans
+pub mod Sources
 pub mod Splits

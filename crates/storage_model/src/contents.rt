@@ -6,7 +6,7 @@ ghost use Rattle.storage_model.specs.Keep.{is_named, keep_base, keep_pend};
 use crate::{Block, BlockList, Kept, Mark, MarkList, NoMemory};
 use std::alloc::Global;
 
-/// The contents `base` after the puts of `pend`, in order.
+/// The contents `base` after the puts of `pend`, in order. The only error is want of memory.
 pub fn now(alloc: Global, base: &[Block], pend: &[Mark]) -> Result<BlockList, NoMemory>
     requires { All (IsWithin base.now) pend.now }
     ensures { IfOk result (λ contents. contents ≡ contents_now base.now pend.now) }
@@ -21,7 +21,8 @@ pub fn now(alloc: Global, base: &[Block], pend: &[Mark]) -> Result<BlockList, No
 }
 
 /// Makes the epochs before the last durable, and of the last the puts on the `blocks` sectors from `first` on. The other
-/// puts stay, in order and without a barrier.
+/// puts stay, in order and without a barrier. So a forced or reliable write keeps its sectors, and a cache flush all
+/// (JESD84-B51, the cache). The only error is want of memory.
 pub fn keep(
     alloc: Global,
     base: &[Block],
@@ -32,6 +33,7 @@ pub fn keep(
     requires { All (IsWithin base.now) pend.now }
     ensures base { IfOk result (λ kept. kept.base ≡ keep_base (is_named first blocks) base.now pend.now) }
     ensures pend { IfOk result (λ kept. kept.pend ≡ keep_pend (is_named first blocks) pend.now) }
+    ensures now { IfOk result (λ kept. contents_now kept.base kept.pend ≡ contents_now base.now pend.now) }
 {
     let last = count_bars(pend);
     let mut contents = Vec::from_slice(alloc, base)?;
@@ -55,7 +57,7 @@ pub fn keep(
     })
 }
 
-// The number of barriers, which is the number of the last epoch.
+/// The number of barriers, which is the number of the last epoch: epochs are counted from 0.
 pub fn count_bars(pend: &[Mark]) -> usize
     ensures { result ≡ bars pend.now }
 {

@@ -1,6 +1,7 @@
 // What a loss of power may leave.
-ghost use Rattle.std.specs.Prelude.{◌≡◌, ◌<◌, length, List, [], ◌∷◌, ◌++◌};
+ghost use Rattle.std.specs.Prelude.{◌≡◌, ◌<◌, IsTrue, length, List, [], ◌∷◌, ◌++◌};
 ghost use Rattle.storage_model.specs.Cover.{Covers};
+ghost use Rattle.storage_model.specs.Laws.{IsKeptOrLater, KeepsBarriers, KeepsReliable};
 ghost use Rattle.storage_model.specs.Left.{is_left, is_left_in, is_mix, mix_at, same_granule};
 ghost use Rattle.storage_model.specs.declared.block.Block.{Block};
 
@@ -8,10 +9,14 @@ use crate::contents::count_bars;
 use crate::{Block, Mark};
 
 /// Whether a loss of power may leave `after` of the contents `base` under the marks `pend`: there is an epoch such that
-/// all before it are whole, and each sector is a mix of its value then and its puts in that epoch.
+/// all before it are whole, and each sector is a mix, by granules of 64 bytes, of its value then and its puts in that
+/// epoch, where a reliable put mixes with none before it (JESD84-B51, the cache, its barrier and reliable write).
 pub fn left_allows(base: &[Block], pend: &[Mark], after: &[Block]) -> bool
     requires { length after.now ≡ length base.now }
-    ensures { result ≡ is_left base.now pend.now after.now }
+    ensures value { result ≡ is_left base.now pend.now after.now }
+    ensures granules { IsTrue result → IsKeptOrLater base.now pend.now after.now }
+    ensures barriers { IsTrue result → KeepsBarriers base.now pend.now after.now }
+    ensures reliable { IsTrue result → KeepsReliable base.now pend.now after.now }
 {
     for epoch in 0..=count_bars(pend) {
         if left_in(base, pend, after, epoch) {

@@ -1,4 +1,5 @@
-//! The types that every layer of the path speaks of: sectors, requests, plans, fault texts and the lines of a trace.
+//! The types that every layer of the path speaks of: sectors, requests, plans, fault texts and the lines of a trace;
+//! and what contents under marks are, may be left as and are kept as.
 #![tactic(auto)]
 
 mod block;
@@ -12,7 +13,7 @@ mod sequence;
 mod trace;
 
 pub use block::{Block, BlockList, Bytes};
-pub use contents::{keep, now};
+pub use contents::{count_bars, keep, now};
 pub use ends::{Halt, NoMemory, TextEnd};
 pub use faults::{
     ArrayHit, ArrayHits, BusKind, Faults, Hit, HitList, Letter, LetterList, WordList,

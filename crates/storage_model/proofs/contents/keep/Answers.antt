@@ -3,6 +3,7 @@ use Rattle.std.proofs.Math.ListN.{length-set}
 use Rattle.storage_model.specs.Keep.{is_named}
 use Rattle.storage_model.specs.declared.marks.Mark.TheVariants.{Bar, Put as PutMark}
 use Rattle.storage_model.proofs.Passes.{next_of}
+use Rattle.storage_model.proofs.Durable.{contents_now-keep}
 use Rattle.storage_model.proofs.Keeps.{base_start, others_start, base_bar, others_bar, base_kept, others_kept, base_other, others_other, base_end, others_end}
 use Rattle.storage_model.proofs.contents.keep.Goals as goal
 use Rattle.storage_model.proofs.contents.keep.Goals.{in-Bar, in-Put+then-is_durable, in-Put+else-is_durable+in_ok-push-in-Put}
@@ -50,4 +51,11 @@ returns-clause-base c =
 pub returns-clause-pend : goal.returns-clause-pend
 returns-clause-pend c =
     let done = others_end c.count_bars-last.result (is_named c.args.first c.args.blocks) c.loop-mark.epoch c.loop-mark.others c.loop-mark.mark-index c.args.pend.now (omega arith) in
+    cc
+
+pub returns-clause-now : goal.returns-clause-now
+returns-clause-now c =
+    let base = base_end c.count_bars-last.result (is_named c.args.first c.args.blocks) c.loop-mark.epoch c.loop-mark.contents.items c.loop-mark.mark-index c.args.pend.now (omega arith) in
+    let others = others_end c.count_bars-last.result (is_named c.args.first c.args.blocks) c.loop-mark.epoch c.loop-mark.others c.loop-mark.mark-index c.args.pend.now (omega arith) in
+    let same = contents_now-keep (is_named c.args.first c.args.blocks) c.args.base.now c.args.pend.now in
     cc
