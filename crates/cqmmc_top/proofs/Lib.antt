@@ -1,4 +1,7 @@
 pub mod Forms
+pub mod Listed
+pub mod Making
+pub mod Names
 pub mod Printing
 pub mod Ranges
 pub mod Reading

@@ -1,5 +1,7 @@
 pub mod Answers
 pub mod Command
+pub mod Listing
+pub mod Made
 pub mod Moves
 pub mod Opened
 pub mod Print

@@ -2,6 +2,8 @@
 #![tactic(auto)]
 
 mod command;
+mod listing;
+mod make;
 mod moves;
 mod opening;
 mod prepare;
