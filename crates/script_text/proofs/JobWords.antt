@@ -1,39 +1,24 @@
 -- The words of a request determine it, and it determines them.
-use Rattle.std.proofs.Common.{◌≡◌, ◌≢◌, ℕ, ◌+◌, ◌/◌, ◌%◌, ◌^◌, ◌<◌, List, [], ◌∷◌, ◌++◌, length, Option, Some, None, codes, decimal, refl, sym, ap, ◌∙◌, subst, arith, append_assoc}
-use Rattle.std.specs.Prelude.{All, slice_index}
-use Rattle.std.proofs.lemmas.Fmt.{decimal_by_steps, decimal_injective}
-use Rattle.std.proofs.lemmas.List.Elements.{All-nil, All-cons, All-head, All-tail, All-append, All-get_or}
+use Rattle.std.proofs.Common.{◌≡◌, ◌≢◌, ℕ, ◌+◌, ◌<◌, List, [], ◌∷◌, ◌++◌, length, Option, Some, None, codes, decimal, refl, sym, ap, ◌∙◌, subst, arith, append_assoc}
+use Rattle.std.specs.Prelude.{All}
+use Rattle.std.proofs.lemmas.Fmt.{decimal_injective}
+use Rattle.std.proofs.lemmas.List.Elements.{All-nil, All-cons}
 use Rattle.std.proofs.lemmas.List.{length-append}
 use Rattle.std.proofs.lemmas.List.Splits.{join_with_byte-slice_split}
-use Rattle.hex.specs.Hex.{encode_with, lower_digits}
 use Rattle.storage_model.specs.declared.plan.Fill.{Fill}
 use Rattle.storage_model.specs.declared.plan.Fill.TheVariants.{Same, Ramp, Listed}
 use Rattle.storage_model.specs.declared.plan.Job.{Job}
 use Rattle.storage_model.specs.declared.plan.Job.TheVariants.{Read, Write, Flush, Barrier, Status}
-use Rattle.script_text.specs.Words.{spaced, words_of, hex_byte}
-use Rattle.script_text.specs.Reads.{Reads}
+use Rattle.text_words.specs.Words.{spaced, words_of, hex_byte}
+use Rattle.text_words.specs.Reads.{Reads}
 use Rattle.script_text.specs.Requests.{IsFill, IsRange, IsRequest, fill_words, job_words, job_text}
-use Rattle.script_text.proofs.Bytes.{hex_byte-injective}
-use Rattle.script_text.proofs.Lines.{IsFree, IsWord, first_part, free_words, line_free, word_from_test, words_of-spaced}
-
-decimal_word : (n : ℕ) → n < 2 ^ 32 → IsWord (decimal n)
-decimal_word n fits =
-    decimal_by_steps (λ n digits. IsWord digits) (λ n small. All-cons (λ b. 32 < b) (48 + n) [] (omega arith) (All-nil (λ b. 32 < b)))
-    (λ n digits big front. All-append (λ b. 32 < b) digits ((48 + n % 10) ∷ []) front (All-cons (λ b. 32 < b) (48 + n % 10) [] (omega arith) (All-nil (λ b. 32 < b))))
-    n (omega arith)
-
-digit_above : (d : ℕ) → d < 16 → 32 < slice_index lower_digits d
-digit_above d fits = All-get_or (λ b. 32 < b) lower_digits d 0 fits (word_from_test lower_digits refl)
-
-hex_word : (byte : ℕ) → byte < 256 → IsWord (hex_byte byte)
-unfolding encode_with
-hex_word byte fits =
-    All-cons (λ b. 32 < b) (slice_index lower_digits (byte / 16)) (slice_index lower_digits (byte % 16) ∷ []) (digit_above (byte / 16) (omega arith))
-    (All-cons (λ b. 32 < b) (slice_index lower_digits (byte % 16)) [] (digit_above (byte % 16) (omega arith)) (All-nil (λ b. 32 < b)))
+use Rattle.text_words.proofs.Bytes.{hex_byte-injective}
+use Rattle.text_words.proofs.Lines.{IsFree, IsWord, first_part, free_words, line_free, word_from_test, words_of-spaced, not_free}
+use Rattle.text_words.proofs.Spellings.{decimal_word, byte_word}
 
 fill_words-plain : (fill : Fill) → IsFill fill → All IsWord (fill_words fill)
 fill_words-plain (Same byte) valid =
-    All-cons IsWord (codes "fill") (hex_byte byte ∷ []) (word_from_test (codes "fill") refl) (All-cons IsWord (hex_byte byte) [] (hex_word byte valid) (All-nil IsWord))
+    All-cons IsWord (codes "fill") (hex_byte byte ∷ []) (word_from_test (codes "fill") refl) (All-cons IsWord (hex_byte byte) [] (byte_word byte valid) (All-nil IsWord))
 fill_words-plain (Ramp start) valid = absurd valid
 fill_words-plain (Listed place) valid = absurd valid
 
@@ -148,10 +133,6 @@ job_text-length job text is = ap length (ap (λ t. t ++ codes "\n") (sym is)) �
 
 pub request_parts : (job : Job) (text front after : List ℕ) → text ≡ front ++ 10 ∷ after → front ≡ spaced (job_words job) → text ≡ job_text job ++ after
 request_parts job text front after parts is = parts ∙ ap (λ t. t ++ 10 ∷ after) is ∙ sym (job_text-line job after)
-
-not_free : (mark : ℕ) (front rest : List ℕ) → IsFree mark (front ++ mark ∷ rest) → ⊥
-not_free mark [] rest free = All-head (λ b. b ≢ mark) mark rest free refl
-not_free mark (b ∷ front) rest free = not_free mark front rest (All-tail (λ b. b ≢ mark) b (front ++ mark ∷ rest) free)
 
 -- a text without a line feed begins with no request
 pub no_request : (job : Job) (text after : List ℕ) → IsFree 10 text → text ≡ job_text job ++ after → ⊥

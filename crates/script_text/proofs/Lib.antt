@@ -1,5 +1,3 @@
-pub mod Bytes
 pub mod FaultMeanings
 pub mod JobWords
-pub mod Lines
 pub mod Meanings

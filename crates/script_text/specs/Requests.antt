@@ -8,7 +8,7 @@ use Rattle.storage_model.specs.declared.plan.Job.{Job}
 use Rattle.storage_model.specs.declared.plan.Job.TheVariants.{Read, Write}
 use Rattle.storage_model.specs.declared.plan.Plan.{Plan}
 use Rattle.storage_model.specs.Plan.{blocks_of}
-use Rattle.script_text.specs.Words.{line, hex_byte}
+use Rattle.text_words.specs.Words.{line, hex_byte}
 
 -- the words of a write's contents
 abbrev pub fill_words : Fill → List (List ℕ)

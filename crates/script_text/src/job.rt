@@ -1,12 +1,11 @@
 // The line of one request.
 ghost use Rattle.std.specs.Prelude.{◌≡◌, ◌∷◌, codes};
-ghost use Rattle.script_text.specs.Reads.{Reads};
+ghost use Rattle.text_words.specs.Reads.{Reads};
 ghost use Rattle.script_text.specs.Requests.{IsFill, IsRequest, fill_words, job_words};
-ghost use Rattle.script_text.specs.Words.{spaced};
+ghost use Rattle.text_words.specs.Words.{spaced};
 
-use crate::numbers::{read_decimal, read_decimal_in, read_hex_byte};
-use crate::words::Words;
 use storage_model::{Fill, Job};
+use text_words::{Words, read_decimal, read_decimal_in, read_hex_byte};
 
 const MAX_BLOCKS: u16 = 1024;
 

@@ -4,9 +4,7 @@
 
 mod faults;
 mod job;
-mod numbers;
 mod requests;
-mod words;
 
 pub use faults::read_faults;
 pub use requests::read_requests;

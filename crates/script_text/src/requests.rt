@@ -2,14 +2,14 @@
 ghost use Rattle.std.specs.Prelude.{◌≡◌, ◌++◌, ℕ, List, length, IfOk, IfErr, IfNone, IfSome};
 ghost use Rattle.storage_model.specs.Plan.{IsValidPlan, blocks_of};
 ghost use Rattle.storage_model.specs.declared.plan.Job.{Job};
-ghost use Rattle.script_text.specs.Reads.{Reads};
+ghost use Rattle.text_words.specs.Reads.{Reads};
 ghost use Rattle.script_text.specs.Requests.{Means, Refused, HasDefaults, IsRequest, job_text};
 ghost use Rattle.script_text.specs.Tally.{IsWithin, with_request};
 
 use crate::job::read_job;
-use crate::words::split_once;
 use std::alloc::Global;
 use storage_model::{BlockList, Job, JobList, Plan, TextEnd};
+use text_words::split_once;
 
 const MAX_REQUESTS: u32 = 65_536;
 

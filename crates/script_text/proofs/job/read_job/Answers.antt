@@ -1,5 +1,5 @@
 use Rattle.std.proofs.Common.{◌≡◌, ◌∷◌, codes, arith, rules}
-use Rattle.script_text.specs.Words.{words_of}
+use Rattle.text_words.specs.Words.{words_of}
 use Rattle.script_text.proofs.JobWords.{reads_line}
 use Rattle.std.proofs.lemmas.Slice.Eq.{text_from_reads}
 use Rattle.script_text.proofs.job.read_job.Goals as goal

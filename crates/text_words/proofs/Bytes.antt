@@ -2,7 +2,7 @@
 use Rattle.std.proofs.Common.{◌≡◌, ℕ, ◌+◌, ◌*◌, ◌/◌, ◌%◌, ◌<◌, List, [], ◌∷◌, length, get_or, slice_index, Some, refl, sym, ap, ◌∙◌, arith}
 use Rattle.hex.specs.Hex.{encode_with, lower_digits, hex_digit_value}
 use Rattle.hex.proofs.HexLemmas.{IsDigits-lower_digits}
-use Rattle.script_text.specs.Words.{hex_byte}
+use Rattle.text_words.specs.Words.{hex_byte}
 
 digits_of_byte : (byte high low : ℕ) → high < 16 → low < 16 → byte ≡ 16 * high + low
     → hex_byte byte ≡ slice_index lower_digits high ∷ slice_index lower_digits low ∷ []

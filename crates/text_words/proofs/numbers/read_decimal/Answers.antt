@@ -2,7 +2,7 @@ use Rattle.std.proofs.Common.{◌≡◌, ◌∙◌, sym, decimal, arith}
 use Rattle.std.proofs.lemmas.Fmt.{parse-decimal, IsAscii-decimal}
 use Rattle.std.proofs.lemmas.Slice.Eq.{bytes_eq-Decides}
 use Rattle.std.proofs.lemmas.Str.{IsUtf8-from_ascii}
-use Rattle.script_text.proofs.numbers.read_decimal.Goals as goal
+use Rattle.text_words.proofs.numbers.read_decimal.Goals as goal
 
 pub returns-in_default : goal.returns-in_default
 returns-in_default c = λ n p. c.in_default.ensures.cases.0 (rw p.1 (IsUtf8-from_ascii (decimal n) (IsAscii-decimal n (omega (arith, p.0)))))

@@ -1,7 +1,7 @@
 use Rattle.std.proofs.Common.{arith, ◌≡◌, ◌∙◌, sym}
 use Rattle.std.proofs.lemmas.Fmt.{decimal_injective}
-use Rattle.script_text.proofs.numbers.read_decimal_in.Goals as goal
-use Rattle.script_text.proofs.numbers.read_decimal_in.Goals.{then-number-from-via-then-number-from, then-number-from-via-else-number-from+then-number-from-2}
+use Rattle.text_words.proofs.numbers.read_decimal_in.Goals as goal
+use Rattle.text_words.proofs.numbers.read_decimal_in.Goals.{then-number-from-via-then-number-from, then-number-from-via-else-number-from+then-number-from-2}
 
 pub returns-then-number-from : goal.returns-then-number-from
 returns-then-number-from c = λ n p.

@@ -1,6 +1,6 @@
 use Rattle.std.proofs.Common.{◌∙◌, sym}
-use Rattle.script_text.proofs.Lines.{words_more, words_last}
-use Rattle.script_text.proofs.words.Words.next.Goals as goal
+use Rattle.text_words.proofs.Lines.{words_more, words_last}
+use Rattle.text_words.proofs.words.Words.next.Goals as goal
 
 pub returns-in-Some : goal.returns-in-Some
 returns-in-Some c =

@@ -1,6 +1,6 @@
 // Lines and their words.
 ghost use Rattle.std.specs.Prelude.{◌≡◌, ◌≢◌, ◌++◌, ◌∷◌, [], All, MatchOption};
-ghost use Rattle.script_text.specs.Words.{words_of};
+ghost use Rattle.text_words.specs.Words.{words_of};
 
 use memchr::memchr;
 use std::marker::Model;
@@ -24,7 +24,7 @@ pub struct Words<'a> {
 impl<'a> Model for Words<'a> {
     ghost use Rattle.std.specs.Prelude.{ℕ, List};
     ghost use Rattle.std.specs.Option.{option_copied};
-    ghost use Rattle.script_text.specs.Words.{words_left};
+    ghost use Rattle.text_words.specs.Words.{words_left};
 
     ghost Value = { List (List ℕ) };
 

@@ -4,7 +4,7 @@ use Rattle.std.specs.Prelude.{All}
 use Rattle.std.proofs.lemmas.List.Elements.{All-nil, All-cons, All-head, All-tail, All-append, All-weaker}
 use Rattle.std.proofs.lemmas.List.Splits.{slice_split_none, slice_split_at}
 use Rattle.std.proofs.lemmas.Bool.{ne_eqb, and_parts, ltb-true}
-use Rattle.script_text.specs.Words.{spaced, words_of}
+use Rattle.text_words.specs.Words.{spaced, words_of}
 
 -- no byte of the text is the mark
 abbrev pub IsFree : ℕ → List ℕ → Type 0
@@ -62,3 +62,7 @@ line_free (word ∷ []) plain = free_from_word 10 word (omega arith) (All-head I
 line_free (word ∷ next ∷ words) plain =
     All-append (λ b. b ≢ 10) word (32 ∷ spaced (next ∷ words)) (free_from_word 10 word (omega arith) (All-head IsWord word (next ∷ words) plain))
     (All-cons (λ b. b ≢ 10) 32 (spaced (next ∷ words)) (λ e. omega arith) (line_free (next ∷ words) (All-tail IsWord word (next ∷ words) plain)))
+
+pub not_free : (mark : ℕ) (front rest : List ℕ) → IsFree mark (front ++ mark ∷ rest) → ⊥
+not_free mark [] rest free = All-head (λ b. b ≢ mark) mark rest free refl
+not_free mark (b ∷ front) rest free = not_free mark front rest (All-tail (λ b. b ≢ mark) b (front ++ mark ∷ rest) free)

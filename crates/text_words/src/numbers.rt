@@ -1,7 +1,7 @@
 // Numbers and bytes, each with exactly one spelling.
 ghost use Rattle.std.specs.Prelude.{◌≡◌, ◌^◌, ◌<◌, ◌≤◌, decimal, slice_index};
-ghost use Rattle.script_text.specs.Reads.{Reads};
-ghost use Rattle.script_text.specs.Words.{hex_byte};
+ghost use Rattle.text_words.specs.Reads.{Reads};
+ghost use Rattle.text_words.specs.Words.{hex_byte};
 ghost use Rattle.hex.specs.Hex.{lower_digits};
 
 use itoa::Buffer;

@@ -1,7 +1,7 @@
 use Rattle.std.proofs.Common.{arith, ◌/◌, ◌%◌, ap, get_or, length}
 use Rattle.hex.specs.Hex.{encode_with}
-use Rattle.script_text.proofs.Bytes.{spells_byte}
-use Rattle.script_text.proofs.numbers.read_hex_byte.Goals as goal
+use Rattle.text_words.proofs.Bytes.{spells_byte}
+use Rattle.text_words.proofs.numbers.read_hex_byte.Goals as goal
 
 pub returns-in_err-high : goal.returns-in_err-high
 unfolding encode_with

@@ -1,0 +1,34 @@
+-- Numbers and bytes are words.
+use Rattle.std.proofs.Common.{◌≡◌, ℕ, zero, suc, ◌+◌, ◌/◌, ◌%◌, ◌^◌, ◌<◌, List, [], ◌∷◌, ◌++◌, decimal, refl, arith}
+use Rattle.std.specs.Prelude.{All, slice_index}
+use Rattle.std.proofs.lemmas.Fmt.{decimal_by_steps}
+use Rattle.std.proofs.lemmas.List.Elements.{All-nil, All-cons, All-append, All-get_or}
+use Rattle.hex.specs.Hex.{IsBytes, encode_lower, encode_with, lower_digits}
+use Rattle.text_words.specs.Words.{hex_byte}
+use Rattle.text_words.proofs.Lines.{IsFree, IsWord, word_from_test}
+
+pub decimal_word : (n : ℕ) → n < 2 ^ 32 → IsWord (decimal n)
+decimal_word n fits =
+    decimal_by_steps (λ n digits. IsWord digits) (λ n small. All-cons (λ b. 32 < b) (48 + n) [] (omega arith) (All-nil (λ b. 32 < b)))
+    (λ n digits big front. All-append (λ b. 32 < b) digits ((48 + n % 10) ∷ []) front (All-cons (λ b. 32 < b) (48 + n % 10) [] (omega arith) (All-nil (λ b. 32 < b))))
+    n (omega arith)
+
+digit_above : (d : ℕ) → d < 16 → 32 < slice_index lower_digits d
+digit_above d fits = All-get_or (λ b. 32 < b) lower_digits d 0 fits (word_from_test lower_digits refl)
+
+-- the digits of bytes are a word
+pub digits_word : (bytes : List ℕ) → IsBytes bytes → IsWord (encode_lower bytes)
+unfolding encode_with
+digits_word [] fits = All-nil (λ b. 32 < b)
+digits_word (byte ∷ bytes) fits =
+    let small : byte < 256 = fits 0 in
+    let rest = digits_word bytes (λ k. fits (suc k)) in
+    All-cons (λ b. 32 < b) (slice_index lower_digits (byte / 16)) (slice_index lower_digits (byte % 16) ∷ encode_lower bytes) (digit_above (byte / 16) (omega arith))
+    (All-cons (λ b. 32 < b) (slice_index lower_digits (byte % 16)) (encode_lower bytes) (digit_above (byte % 16) (omega arith)) rest)
+
+one_byte : (byte : ℕ) → byte < 256 → IsBytes (byte ∷ [])
+one_byte byte fits zero = fits
+one_byte byte fits (suc k) = omega arith
+
+pub byte_word : (byte : ℕ) → byte < 256 → IsWord (hex_byte byte)
+byte_word byte fits = digits_word (byte ∷ []) (one_byte byte fits)

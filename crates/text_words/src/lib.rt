@@ -1,0 +1,9 @@
+//! The words that every text is made of: lines, words parted by single spaces, and numbers and bytes with exactly one
+//! spelling each.
+#![tactic(auto)]
+
+mod numbers;
+mod words;
+
+pub use numbers::{read_decimal, read_decimal_in, read_hex_byte};
+pub use words::{Words, split_once};
