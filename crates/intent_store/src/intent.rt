@@ -89,7 +89,8 @@ impl Intent {
         self.sectors
     }
 
-    /// Reads a sector. It programs nothing.
+    /// Reads a sector. It programs nothing. After an error the block has any contents. `Flash` and `PowerLost` come only
+    /// where the array failed in this call or lost power, here as in the other calls.
     #[tactic(auto, using(crate::proofs::StepLemmas::read_place))]
     pub fn read<A: Array>(
         &mut self,
@@ -153,7 +154,7 @@ impl Intent {
         self.finish(sector, block, array)
     }
 
-    // The gate, fetched where it is in doubt.
+    // The gate, fetched where it is in doubt. Where an array that tells no pages gives no gate, it counts as shut.
     fn look<A: Array>(&mut self, array: &mut A) -> Result<Gate, StoreEnd>
         requires { IntentStands self.old (A.state array.old) }
         ensures stands { IntentStands self.new (A.state array.new) }
