@@ -1,5 +1,5 @@
 -- What the pages of an image show after one of them was written.
-use Rattle.std.proofs.Common.{◌≡◌, ◌≢◌, ℕ, ◌+◌, ◌≤◌, ◌<◌, List, [], length, drop, refl, sym, ap, ◌∙◌, arith}
+use Rattle.std.proofs.Common.{◌≡◌, ◌≢◌, ℕ, ◌+◌, ◌≤◌, ◌<◌, List, [], length, take, drop, refl, sym, ap, ◌∙◌, arith}
 use Rattle.std.specs.Prelude.{slice_set}
 use Rattle.std.proofs.lemmas.List.{get_or-set_other, get_or-set_same, get_or-drop, get_or-take, drop-set-lt, drop-set-add, length-set, length-drop, length-take, set-set, set-get_or}
 use Rattle.std.proofs.Math.Seq.{take-set-lt}
@@ -212,3 +212,11 @@ shown-closed pages block sector low e same shut =
     ∙ sym kept
     ∙ ap (λ b. slice_set (stored pages) sector b) (sym there)
     ∙ sym (shown-ajar pages sector e)
+
+-- pages with these forms, the gate shut, show what stands behind the first 8
+pub shown-forms : (pages : List Block) (s : Super) → IsSuper (page_at pages 0) s → IsGate (page_at pages 1) s.sectors Shut
+    → shown pages ≡ take s.sectors (drop 8 pages)
+unfolding stored
+shown-forms pages s is closed =
+    shown-shut pages (gate_at-IsGate pages s.sectors Shut is.most closed)
+    ∙ ap (λ n. take n (drop 8 pages)) (sectors_of-IsSuper pages s is)

@@ -2,3 +2,4 @@ mod WriteLemmas
 mod StepLemmas
 mod OpeningLemmas
 mod CallLemmas
+pub mod Standing

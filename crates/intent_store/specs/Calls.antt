@@ -1,9 +1,9 @@
 -- The calls on pages that an opening makes, each with what it counts and how it ends.
-use Rattle.std.specs.Prelude.{◌≡◌, ℕ, Bool, true, false, List, [], ◌∷◌, Result, Ok, Err}
+use Rattle.std.specs.Prelude.{◌≡◌, ℕ, Bool, true, false, List, [], ◌∷◌, IfSome, Result, Ok, Err}
 use Rattle.storage_model.specs.Count.{RaisedByOne}
 use Rattle.storage_model.specs.declared.block.Block.{Block}
 use Rattle.array_edge.specs.Array.{ArrayState}
-use Rattle.image_form.specs.Image.{PageCall, Fetch, Program}
+use Rattle.image_form.specs.Image.{PageCall, Fetch, IsImage, Program, gate_at, opening}
 use Rattle.intent_store.specs.declared.ends.StoreEnd.{StoreEnd}
 use Rattle.intent_store.specs.Intent.{StoreEnds}
 use Rattle.intent_store.specs.Steps.{IsWritten}
@@ -38,3 +38,7 @@ pub data Makes : List PageCall → ArrayState → ArrayState → Bool → Type 0
       → Makes (call ∷ calls) old new false
   more : (call : PageCall) (calls : List PageCall) (old middle new : ArrayState) (ok : Bool) → IsCall call old middle (Ok tt)
       → Makes calls middle new ok → Makes (call ∷ calls) old new ok
+
+-- an array that tells the pages of an image is opened by the calls of an opening, or by the first of them
+abbrev pub Opens : ArrayState → ArrayState → Bool → Type 0
+Opens old new ok = IfSome old.told (λ pages. IsImage pages → Makes (opening (gate_at pages)) old new ok)

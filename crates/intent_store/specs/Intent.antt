@@ -2,7 +2,7 @@
 use Rattle.std.specs.Prelude.{◌≡◌, ◌⊎◌, ◌≤◌, ℕ, ◌+◌, true, false, List, Option, IfSome, Result, Err, IsErrOf, OnOk, option_map}
 use Rattle.storage_model.specs.Count.{Later, Rose}
 use Rattle.storage_model.specs.declared.block.Block.{Block}
-use Rattle.array_edge.specs.Array.{ArrayState}
+use Rattle.array_edge.specs.Array.{ArrayState, with_page}
 use Rattle.image_form.specs.declared.gate.Gate.{Gate}
 use Rattle.image_form.specs.Image.{IsImage, sectors_of, gate_at, shown}
 use Rattle.intent_store.specs.declared.ends.StartEnd.{StartEnd}
@@ -29,6 +29,10 @@ pub record IsKnown (known : Known) (pages : List Block) : Type 0 where
 pub record IntentStands (known : Known) (array : ArrayState) : Type 0 where
   pub room : 8 + known.sectors ≤ array.count
   pub told : IfSome array.told (IsKnown known)
+
+-- what is shown is the old sectors, or the old with one of them new
+abbrev pub IsOldOrNew : Option (List Block) → ℕ → Block → Option (List Block) → Type 0
+IsOldOrNew old sector block new = (new ≡ old) ⊎ (new ≡ with_page old sector block)
 
 -- How a call of an intent store ends. Counts don't fall. `Flash` is told only where the array failed in this call,
 -- `PowerLost` only where the power was cut in this call or was off.

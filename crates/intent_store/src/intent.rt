@@ -4,8 +4,8 @@ ghost use Rattle.image_form.specs.Form.{gate_number, gate_head, page_of};
 ghost use Rattle.image_form.specs.declared.gate.Gate.TheVariants.{Shut, Ajar};
 ghost use Rattle.image_form.specs.Image.{PageCall, Fetch, IsImage, Program, finishing, gate_at, opening};
 ghost use Rattle.intent_store.specs.declared.ends.StartEnd.TheVariants.{BadImage};
-ghost use Rattle.intent_store.specs.Calls.{IsCall, Makes};
-ghost use Rattle.intent_store.specs.Intent.{Known, IntentStands, IsNoImage, ShowsImage, StartEnds, StoreEnds, IsRefusedOff, shown_by};
+ghost use Rattle.intent_store.specs.Calls.{IsCall, Makes, Opens};
+ghost use Rattle.intent_store.specs.Intent.{Known, IntentStands, IsNoImage, IsOldOrNew, ShowsImage, StartEnds, StoreEnds, IsRefusedOff, shown_by};
 ghost use Rattle.intent_store.specs.Steps.{IsOpening, IsWritten, IsMoved, after_gate, place_of, intent_by, with_intent};
 
 use crate::pages::{fetch, program};
@@ -44,12 +44,13 @@ impl Intent {
         ensures image { OnOk result (ShowsImage (A.state array.old)) }
         ensures bad { IsErrOf result BadImage → IsNoImage (A.state array.old) }
         ensures bad_told { IsErrOf result BadImage → (A.state array.new).told ≡ (A.state array.old).told }
+        ensures programs { IfSome (A.state array.old).told (λ pages. (IsImage pages → ⊥) → (A.state array.new).programs ≡ (A.state array.old).programs) }
         ensures few { (A.state array.old).count < 2 → (result ≡ Err BadImage) × (A.state array.new ≡ record (A.state array.old) { powered = true }) }
         ensures shown { shown_by (A.state array.new) ≡ shown_by (A.state array.old) }
         ensures kept { ShowsImage (A.state array.old) → ShowsImage (A.state array.new) }
         ensures was_image { ShowsImage (A.state array.new) → ShowsImage (A.state array.old) }
         ensures ends { StartEnds (A.state array.old) (A.state array.new) result }
-        ensures calls { IfSome (A.state array.old).told (λ pages. IsImage pages → Makes (opening (gate_at pages)) (record (A.state array.old) { powered = true }) (A.state array.new) (is_ok result)) }
+        ensures calls { Opens (record (A.state array.old) { powered = true }) (A.state array.new) (is_ok result) }
     {
         array.power_on();
         let mut intent = Intent::find(array)?;
@@ -63,6 +64,7 @@ impl Intent {
         ensures stands { IfOk result (λ intent. IntentStands intent (A.state array.new)) }
         ensures bad { IsErrOf result BadImage → IsNoImage (A.state array.old) }
         ensures told { (A.state array.new).told ≡ (A.state array.old).told }
+        ensures programs { (A.state array.new).programs ≡ (A.state array.old).programs }
         ensures few { (A.state array.old).count < 2 → (result ≡ Err BadImage) × (A.state array.new ≡ A.state array.old) }
         ensures ends { StartEnds (A.state array.old) (A.state array.new) result }
         ensures known { IfOk result (λ intent. IsSome intent.gate) }
@@ -88,7 +90,8 @@ impl Intent {
         self.sectors
     }
 
-    /// Reads a sector. It programs nothing.
+    /// Reads a sector. It programs nothing. After an error the block has any contents. `Flash` and `PowerLost` come only
+    /// where the array failed in this call or lost power, here as in the other calls.
     #[tactic(auto, using(crate::proofs::StepLemmas::read_place))]
     pub fn read<A: Array>(
         &mut self,
@@ -143,7 +146,7 @@ impl Intent {
         ensures stands { IntentStands self.new (A.state array.new) }
         ensures sectors { self.new.sectors ≡ self.old.sectors }
         ensures ok { OnOk result (shown_by (A.state array.new) ≡ with_page (shown_by (A.state array.old)) sector block.now) }
-        ensures either { (shown_by (A.state array.new) ≡ shown_by (A.state array.old)) ⊎ (shown_by (A.state array.new) ≡ with_page (shown_by (A.state array.old)) sector block.now) }
+        ensures either { IsOldOrNew (shown_by (A.state array.old)) sector block.now (shown_by (A.state array.new)) }
         ensures ends { StoreEnds (A.state array.old) (A.state array.new) result }
         ensures off { IsRefusedOff (A.state array.old) (A.state array.new) result }
     {
@@ -152,7 +155,7 @@ impl Intent {
         self.finish(sector, block, array)
     }
 
-    // The gate, fetched where it is in doubt.
+    // The gate, fetched where it is in doubt. Where an array that tells no pages gives no gate, it counts as shut.
     fn look<A: Array>(&mut self, array: &mut A) -> Result<Gate, StoreEnd>
         requires { IntentStands self.old (A.state array.old) }
         ensures stands { IntentStands self.new (A.state array.new) }
@@ -293,7 +296,7 @@ impl Intent {
         ensures ajar { OnOk result (self.new.gate ≡ Some (Ajar sector)) }
         ensures intent { OnOk result (HasPage (A.state array.new).told 2 block.now) }
         ensures ok { OnOk result (shown_by (A.state array.new) ≡ with_page (shown_by (A.state array.old)) sector block.now) }
-        ensures either { (shown_by (A.state array.new) ≡ shown_by (A.state array.old)) ⊎ (shown_by (A.state array.new) ≡ with_page (shown_by (A.state array.old)) sector block.now) }
+        ensures either { IsOldOrNew (shown_by (A.state array.old)) sector block.now (shown_by (A.state array.new)) }
         ensures ends { StoreEnds (A.state array.old) (A.state array.new) result }
         ensures off { IsRefusedOff (A.state array.old) (A.state array.new) result }
     {

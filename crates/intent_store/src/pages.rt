@@ -14,6 +14,7 @@ pub fn fetch<A: Array>(array: &mut A, page: u32, block: &mut Block) -> Result<()
     requires { page < (A.state array.old).count }
     ensures read { OnOk result (HasPage (A.state array.old).told page block.new) }
     ensures told { (A.state array.new).told ≡ (A.state array.old).told }
+    ensures programs { (A.state array.new).programs ≡ (A.state array.old).programs }
     ensures ends { StoreEnds (A.state array.old) (A.state array.new) result }
     ensures off { IsRefusedOff (A.state array.old) (A.state array.new) result }
     ensures call { (A.state array.old).powered ≡ true → IsCall (Fetch page) (A.state array.old) (A.state array.new) result }
