@@ -3,7 +3,7 @@
 #![tactic(auto)]
 
 use array_edge::FileArray;
-use cqmmc_top::run_command;
+use cqmmc_top::{new_pages, run_command};
 use io_edge::{AnySource, EmptySource, NoSource, StdSink, StdSource};
 use std::alloc::{AllocError, Global};
 use std::fs::File;
@@ -46,15 +46,35 @@ fn read_words(rt: &HostRuntime) -> io::Result<Vec<String>> {
     Ok(words)
 }
 
-// The image that word 2 names.
+// The image that word 2 names, made anew where the words ask for that.
 fn open_image(rt: &HostRuntime, words: &[String]) -> FileArray {
+    let pages = new_pages(words);
     match words.get(1) {
-        Some(path) => match open_pages(rt, path) {
+        Some(path) => match open_or_make(rt, path, pages) {
             Ok(array) => array,
-            Err(_) => FileArray::failing(PAGES_OF_NONE),
+            Err(_) => FileArray::failing(pages.unwrap_or(PAGES_OF_NONE)),
         },
         None => FileArray::failing(PAGES_OF_NONE),
     }
+}
+
+fn open_or_make(rt: &HostRuntime, path: &String, pages: Option<u32>) -> io::Result<FileArray> {
+    match pages {
+        Some(pages) => make_pages(rt, path, pages),
+        None => open_pages(rt, path),
+    }
+}
+
+// A new file of so many pages of zeros.
+fn make_pages(rt: &HostRuntime, path: &String, pages: u32) -> io::Result<FileArray> {
+    let file = File::options()
+        .read(true)
+        .write(true)
+        .create(true)
+        .truncate(true)
+        .open(rt, path.as_str())?;
+    file.set_len(u64::from(pages) * PAGE_SIZE)?;
+    Ok(FileArray::over(file, pages))
 }
 
 fn open_pages(rt: &HostRuntime, path: &String) -> io::Result<FileArray> {

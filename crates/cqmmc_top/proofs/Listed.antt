@@ -13,6 +13,6 @@ part_at {took = took} both text xs i d below a b c first part =
     let next = text (get_or xs i d) in
     let rest = flat_map text (drop (i + 1) xs) in
     let all : flat_map text xs ≡ (front ++ next) ++ rest =
-        ap (flat_map text) (sym (take-append-drop i xs) ∙ ap (λ l. take i xs ++ l) (drop_more xs i d below))
-        ∙ (flat_map-append text (take i xs) (get_or xs i d ∷ drop (i + 1) xs) ∙ sym (append_assoc front next rest)) in
+    ap (flat_map text) (sym (take-append-drop i xs) ∙ ap (λ l. take i xs ++ l) (drop_more xs i d below))
+    ∙ (flat_map-append text (take i xs) (get_or xs i d ∷ drop (i + 1) xs) ∙ sym (append_assoc front next rest)) in
     subst (λ t. TookPart took a t c) (sym all) (took_part-longer a c (front ++ next) rest (took_part-after both a b c front next first part))

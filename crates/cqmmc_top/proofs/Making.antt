@@ -1,12 +1,11 @@
 -- The pages of a new image.
-use Rattle.std.proofs.Common.{◌≡◌, ◌≢◌, ◌⊎◌, inl, inr, ℕ, zero, suc, ◌+◌, ◌<◌, ◌≤◌, List, [], ◌∷◌, Option, None, Some, IfSome, length, get_or, take, drop, set, replicate, refl, sym, ◌∙◌, ap, subst, arith, length-set, length-take, length-drop}
+use Rattle.std.proofs.Common.{◌≡◌, ◌⊎◌, inl, inr, ℕ, zero, suc, ◌+◌, ◌<◌, ◌≤◌, List, [], ◌∷◌, Option, None, Some, IfSome, length, get_or, take, drop, set, replicate, refl, sym, ◌∙◌, ap, subst, arith, length-set, length-take, length-drop}
 use Rattle.std.proofs.lemmas.List.{get_or-set_same, get_or-set_other, get_or-take, get_or-drop}
 use Rattle.storage_model.specs.declared.block.Block.{Block}
 use Rattle.array_edge.specs.Array.{page_at, with_page}
-use Rattle.image_form.specs.declared.superblock.Super.{Super}
-use Rattle.image_form.specs.declared.gate.Gate.TheVariants.{Shut, Ajar}
+use Rattle.image_form.specs.declared.gate.Gate.TheVariants.{Shut}
 use Rattle.image_form.specs.Form.{IsSuper, IsGate}
-use Rattle.image_form.specs.Image.{IsImage, sectors_of, gate_at, shown, stored}
+use Rattle.image_form.specs.Image.{sectors_of, gate_at, stored}
 use Rattle.image_form.proofs.Images.{sectors_of-IsSuper, gate_at-IsGate, IsImage-forms, shown-shut}
 use Rattle.cqmmc_top.specs.Made.{Blanked, IsBlanked, IsZeroImage, zero_block}
 
@@ -52,7 +51,7 @@ unfolding stored
 zeros_stored sectors made count wide each =
     ap (λ n. take n (drop 8 made)) count
     ∙ all_same sectors (take sectors (drop 8 made)) blank zero_block (length-take sectors (drop 8 made) ∙ omega (arith, length-drop 8 made))
-      (λ k below. get_or-take sectors (drop 8 made) k blank below ∙ (get_or-drop 8 made k blank ∙ each k below))
+    (λ k below. get_or-take sectors (drop 8 made) k blank below ∙ (get_or-drop 8 made k blank ∙ each k below))
 
 module _ (sectors : ℕ) (super gate : Block) (is_super : IsSuper super (record { version = 1; sectors = sectors })) (is_gate : IsGate gate sectors Shut) where
   zero_image : (start pages : List Block) → 8 + sectors ≤ length start → IsBlanked 2 (8 + sectors) (set (set start 0 zero_block) 1 gate) pages → IsZeroImage sectors (set pages 0 super)
@@ -61,7 +60,7 @@ module _ (sectors : ℕ) (super gate : Block) (is_super : IsSuper super (record 
       let made = set pages 0 super in
       let first : page_at made 0 ≡ super = get_or-set_same pages 0 super blank (omega arith) in
       let second : page_at made 1 ≡ gate =
-          get_or-set_other pages 0 1 super blank (λ e. omega arith) ∙ (blanked.before 1 (omega arith) ∙ get_or-set_same (set start 0 zero_block) 1 gate blank (omega (arith, length-set start 0 zero_block))) in
+      get_or-set_other pages 0 1 super blank (λ e. omega arith) ∙ (blanked.before 1 (omega arith) ∙ get_or-set_same (set start 0 zero_block) 1 gate blank (omega (arith, length-set start 0 zero_block))) in
       let s : IsSuper (page_at made 0) (record { version = 1; sectors = sectors }) = subst (λ block. IsSuper block (record { version = 1; sectors = sectors })) (sym first) is_super in
       let g : IsGate (page_at made 1) sectors Shut = subst (λ block. IsGate block sectors Shut) (sym second) is_gate in
       let wide : 8 + sectors ≤ length made = omega (arith, length-set pages 0 super) in
@@ -72,6 +71,7 @@ module _ (sectors : ℕ) (super gate : Block) (is_super : IsSuper super (record 
         count = count;
         zeros = shown-shut made shut ∙ zeros_stored sectors made count wide (λ k below. get_or-set_other pages 0 (8 + k) super blank (λ e. omega arith) ∙ blanked.blank (8 + k) (omega arith) (omega arith));
       }
+
   pub image_made : (t0 t1 t2 t3 t4 t5 : Option (List Block)) → IfSome t0 (λ pages. 8 + sectors ≤ length pages) → t1 ≡ with_page t0 0 zero_block → t2 ≡ with_page t1 1 gate → Blanked 2 (8 + sectors) t2 t3 → t4 ≡ t3 → t5 ≡ with_page t4 0 super
       → IfSome t5 (IsZeroImage sectors)
   image_made t0 t1 t2 t3 t4 t5 room e1 e2 blanked e4 e5 =

@@ -1,5 +1,5 @@
 -- The names of the fields fit in a line.
-use Rattle.std.proofs.Common.{ℕ, ◌≤◌, length, lit≤}
+use Rattle.std.proofs.Common.{◌≤◌, length, lit≤}
 use Rattle.ext_csd.specs.declared.field.Field.{Field}
 use Rattle.ext_csd.specs.declared.field.Field.TheVariants.{CmdqModeEn, BarrierCtrl, FlushCache, CacheCtrl, DataSectorSize, UseNativeSector, NativeSectorSize, WrRelParam, WrRelSet, ExtCsdRev, SecCount, RelWrSecC, CacheFlushPolicy, CacheSize, CmdqDepth, CmdqSupport, BarrierSupport}
 use Rattle.ext_csd.specs.Table.{name_of}

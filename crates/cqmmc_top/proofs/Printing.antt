@@ -1,5 +1,5 @@
 -- Lines that were printed one after the other.
-use Rattle.std.proofs.Common.{◌≡◌, inl, ℕ, ◌+◌, ◌<◌, List, [], ◌∷◌, ◌++◌, Option, None, Some, Result, Ok, Err, length, take, flat_map, refl, sym, ◌∙◌, ap, subst, append_assoc}
+use Rattle.std.proofs.Common.{◌≡◌, inl, ℕ, List, [], ◌∷◌, ◌++◌, Option, None, Some, Result, Ok, Err, take, sym, ◌∙◌, ap, subst, append_assoc}
 use Rattle.std.specs.Option.{IsSomeAnd}
 use Rattle.std.proofs.lemmas.List.{append-nil}
 use Rattle.std.proofs.lemmas.List.Concat.{flat_map-append}
@@ -7,12 +7,12 @@ use Rattle.storage_model.specs.declared.block.Block.{Block}
 use Rattle.storage_model.specs.declared.ends.Halt.{Halt}
 use Rattle.storage_model.specs.declared.ends.Halt.TheVariants.{SinkFailed, OpenFault, PowerGone, BadImage}
 use Rattle.storage_model.specs.declared.trace.End.{End}
-use Rattle.storage_model.specs.declared.trace.End.TheVariants.{Good, Fault, Dead, Image}
+use Rattle.storage_model.specs.declared.trace.End.TheVariants.{Fault, Dead}
 use Rattle.storage_model.specs.declared.trace.Item.{Item}
 use Rattle.io_edge.specs.Sink.{TookPart, Joins}
 use Rattle.trace_text.specs.Trace.{item_text, items_text}
 use Rattle.cqmmc_top.specs.Print.{PrintsLine, Prints, BreaksOff, Stops, Fails, Served}
-use Rattle.cqmmc_top.specs.Serial.{Serial, Over, Line, Lines, none, more, IsNear}
+use Rattle.cqmmc_top.specs.Serial.{Serial, Line, Lines, none, more, IsNear}
 
 lines-append : (blocks : List Block) {s m t : Serial} {items others : List Item} → Lines blocks s items m → Lines blocks m others t → Lines blocks s (items ++ others) t
 lines-append blocks none last = last

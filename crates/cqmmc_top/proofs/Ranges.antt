@@ -1,16 +1,16 @@
 -- Requests none of which ends past the last sector.
-use Rattle.std.proofs.Common.{◌≡◌, ℕ, zero, suc, ◌+◌, ◌<◌, ◌≤◌, Bool, true, false, List, [], ◌∷◌, All, Option, None, Some, length, get_or, refl, sym, ◌∙◌, arith}
+use Rattle.std.proofs.Common.{◌≡◌, ℕ, zero, suc, ◌+◌, ◌<◌, ◌≤◌, Bool, true, false, List, [], ◌∷◌, All, None, Some, length, get_or, refl, sym, ◌∙◌, arith}
 use Rattle.std.proofs.lemmas.Iterator.Adapters.{position_from-zero}
 use Rattle.std.proofs.lemmas.Bool.Decides.{nat_tests}
 use Rattle.std.specs.List.{position, position_from}
 use Rattle.std.specs.Prelude.{cond}
-use Rattle.storage_model.specs.Plan.{IsValidJob, blocks_of}
+use Rattle.storage_model.specs.Plan.{IsValidJob}
 use Rattle.storage_model.specs.declared.block.Block.{Block}
 use Rattle.storage_model.specs.declared.plan.Job.{Job}
 use Rattle.storage_model.specs.declared.plan.Job.TheVariants.{Read, Write, Flush, Barrier, Status}
 use Rattle.script_text.specs.Requests.{IsRequest}
 use Rattle.cqmmc_top.specs.Answers.{is_past}
-use Rattle.cqmmc_top.specs.Serial.{IsPlain, IsServable}
+use Rattle.cqmmc_top.specs.Serial.{IsServable}
 
 none_from : {X : Type 0} (test : X → Bool) (i : ℕ) (xs : List X) → position_from test i xs ≡ None → (k : ℕ) (d : X) → k < length xs → test (get_or xs k d) ≡ false
 none_from test i [] none k d below = absurd (omega arith)

@@ -1,5 +1,5 @@
 -- The sectors of a read, one after the other.
-use Rattle.std.proofs.Common.{◌≡◌, ℕ, ◌+◌, ◌<◌, ◌≤◌, List, [], ◌∷◌, ◌++◌, Option, None, Some, IfSome, length, take, drop, set, get_or, refl, sym, ◌∙◌, ap, subst, arith, length-drop, option_map}
+use Rattle.std.proofs.Common.{◌≡◌, ℕ, ◌+◌, ◌<◌, ◌≤◌, List, [], ◌∷◌, ◌++◌, Option, None, Some, IfSome, length, take, drop, set, refl, sym, ◌∙◌, ap, subst, arith, length-drop, option_map}
 use Rattle.std.proofs.lemmas.List.{take_more, take_more_set, get_or-drop}
 use Rattle.storage_model.specs.declared.block.Block.{Block}
 use Rattle.array_edge.specs.Array.{ArrayState, HasPage, page_at}

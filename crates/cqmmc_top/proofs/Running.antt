@@ -1,6 +1,6 @@
 -- Requests served one after the other, and the first and the last line.
-use Rattle.std.proofs.Common.{◌≡◌, inl, ℕ, ◌+◌, ◌<◌, ◌≤◌, List, [], ◌∷◌, ◌++◌, Option, None, Some, IfSome, Result, Ok, Err, length, get_or, take, drop, refl, sym, ◌∙◌, ap, subst, arith, length-take, length-drop}
-use Rattle.std.specs.Option.{IsSomeAnd, option_map}
+use Rattle.std.proofs.Common.{◌≡◌, inl, ℕ, ◌+◌, ◌<◌, List, [], ◌∷◌, ◌++◌, Option, None, Some, Result, Ok, Err, length, get_or, take, drop, refl, sym, ◌∙◌, ap, subst, arith}
+use Rattle.std.specs.Option.{IsSomeAnd}
 use Rattle.std.proofs.lemmas.List.{take_more, take_all, drop_more, drop_all}
 use Rattle.storage_model.specs.declared.block.Block.{Block}
 use Rattle.storage_model.specs.declared.ends.Halt.{Halt}
@@ -9,14 +9,13 @@ use Rattle.storage_model.specs.declared.plan.Job.{Job}
 use Rattle.storage_model.specs.declared.trace.End.{End}
 use Rattle.storage_model.specs.declared.trace.End.TheVariants.{Good, Fault, Dead}
 use Rattle.storage_model.specs.declared.trace.Item.TheVariants.{Card, Off}
-use Rattle.array_edge.specs.Array.{ArrayState}
 use Rattle.intent_store.specs.declared.ends.StoreEnd.{StoreEnd}
 use Rattle.intent_store.specs.declared.ends.StoreEnd.TheVariants.{Flash, PowerLost}
-use Rattle.io_edge.specs.Sink.{TookPart, Joins}
+use Rattle.io_edge.specs.Sink.{Joins}
 use Rattle.trace_text.specs.Trace.{item_text}
 use Rattle.cqmmc_top.proofs.Printing.{one, and_then, fails_one, served_then, served_one, served_err}
 use Rattle.cqmmc_top.specs.Print.{PrintsLine, Prints, Served, EndsLine}
-use Rattle.cqmmc_top.specs.Serial.{Serial, ToIssue, Over, Line, after_job, after_jobs, issuing, ended, start, IsNear}
+use Rattle.cqmmc_top.specs.Serial.{Serial, Over, Line, after_job, after_jobs, issuing, ended, start, IsNear}
 
 after_jobs-push : (blocks base : List Block) (jobs : List Job) (job : Job) → after_jobs blocks base (jobs ++ job ∷ []) ≡ after_job blocks (after_jobs blocks base jobs) job
 after_jobs-push blocks base [] job = refl

@@ -1,5 +1,5 @@
 -- The lines of one request.
-use Rattle.std.proofs.Common.{◌≡◌, ◌≢◌, inl, inr, ℕ, ◌+◌, ◌<◌, List, [], ◌∷◌, Bool, true, false, Option, None, Some, Result, Ok, Err, length, get_or, drop, refl, sym, ◌∙◌, ap, subst, arith}
+use Rattle.std.proofs.Common.{◌≡◌, inl, inr, ℕ, ◌+◌, ◌<◌, List, [], ◌∷◌, Bool, true, false, Option, Some, Result, Ok, Err, length, get_or, drop, refl, sym, ap, subst, arith}
 use Rattle.std.proofs.lemmas.List.{drop_more, drop_all}
 use Rattle.std.specs.Option.{IsSomeAnd}
 use Rattle.storage_model.specs.declared.block.Block.{Block}
@@ -7,18 +7,16 @@ use Rattle.storage_model.specs.declared.ends.Halt.{Halt}
 use Rattle.storage_model.specs.declared.ends.Halt.TheVariants.{SinkFailed, OpenFault, PowerGone, BadImage}
 use Rattle.storage_model.specs.declared.plan.Fill.{Fill}
 use Rattle.storage_model.specs.declared.plan.Job.{Job}
-use Rattle.storage_model.specs.declared.plan.Job.TheVariants.{Read as ReadJob, Write as WriteJob, Flush, Barrier, Status as StatusJob}
-use Rattle.storage_model.specs.declared.trace.End.{End}
-use Rattle.storage_model.specs.declared.trace.End.TheVariants.{Good, Fault, Dead, Image}
-use Rattle.storage_model.specs.declared.trace.Item.{Item}
+use Rattle.storage_model.specs.declared.plan.Job.TheVariants.{Read as ReadJob, Write as WriteJob}
+use Rattle.storage_model.specs.declared.trace.End.TheVariants.{Fault, Dead}
 use Rattle.storage_model.specs.declared.trace.Item.TheVariants.{Issue, Phase, Done, Read, Sector, Off}
 use Rattle.intent_store.specs.declared.ends.StoreEnd.{StoreEnd}
 use Rattle.intent_store.specs.declared.ends.StoreEnd.TheVariants.{Flash, PowerLost}
-use Rattle.io_edge.specs.Sink.{TookPart, Joins}
+use Rattle.io_edge.specs.Sink.{Joins}
 use Rattle.trace_text.specs.Trace.{item_text}
-use Rattle.cqmmc_top.proofs.Printing.{one, and_then, fails_one, stops_then, served_then, served_one, served_err, near_same}
-use Rattle.cqmmc_top.specs.Print.{PrintsLine, Prints, Stops, Served, EndsLine, off_end}
-use Rattle.cqmmc_top.specs.Serial.{Serial, none, Due, ToIssue, ToMove, ToAnswer, ToShow, ToEnd, Over, Line, Lines, IsNear, IsNearBase, IsBroken, moving, issuing, moved, next_put, answered, showing, sectors_at, after_job}
+use Rattle.cqmmc_top.proofs.Printing.{one, and_then, fails_one, served_then, served_one, served_err, near_same}
+use Rattle.cqmmc_top.specs.Print.{PrintsLine, Prints, Served, EndsLine}
+use Rattle.cqmmc_top.specs.Serial.{Serial, none, ToAnswer, ToShow, ToEnd, Over, Line, IsNearBase, IsBroken, moving, issuing, moved, next_put, answered, showing, sectors_at, after_job}
 
 module _ {K : Type 0} (took : K → List ℕ → K → Type 0) (both : Joins took) (blocks : List Block) (id : ℕ) (base : List Block) where
   -- a write's phase was printed

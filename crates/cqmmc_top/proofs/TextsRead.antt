@@ -1,5 +1,5 @@
 -- What the front of a text says of all of it.
-use Rattle.std.proofs.Common.{◌≡◌, ◌⊎◌, inl, inr, ℕ, zero, suc, ◌<◌, ◌≤◌, List, [], ◌∷◌, ◌++◌, All, Option, None, Some, IfSome, length, take, drop, refl, sym, ◌∙◌, ap, subst, arith, take-append-drop, length-take}
+use Rattle.std.proofs.Common.{◌≡◌, ◌⊎◌, inl, inr, ℕ, suc, ◌<◌, ◌≤◌, List, [], ◌∷◌, ◌++◌, Option, None, Some, IfSome, length, take, drop, refl, sym, ◌∙◌, ap, subst, arith, take-append-drop, length-take}
 use Rattle.std.proofs.lemmas.List.{take_all}
 use Rattle.storage_model.specs.declared.plan.Job.{Job}
 use Rattle.script_text.specs.Requests.{Means, IsBadAt}

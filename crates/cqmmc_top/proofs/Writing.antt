@@ -1,7 +1,6 @@
 -- The blocks of a write, one after the other.
-use Rattle.std.proofs.Common.{◌≡◌, ◌⊎◌, inl, inr, ℕ, zero, suc, ◌+◌, ◌<◌, ◌≤◌, Bool, true, false, List, [], ◌∷◌, ◌++◌, Option, None, Some, IfSome, map, set, length, refl, sym, ◌∙◌, ap, subst, arith, add-zero, option_map}
+use Rattle.std.proofs.Common.{◌≡◌, inr, ℕ, suc, ◌+◌, ◌<◌, true, List, [], ◌∷◌, ◌++◌, Option, None, Some, IfSome, set, length, refl, sym, ◌∙◌, ap, subst, arith, add-zero, option_map}
 use Rattle.std.proofs.lemmas.List.FromFn.{map-range_with_len_more, length-map-range_with_len}
-use Rattle.std.specs.List.{range_with_len}
 use Rattle.std.specs.Option.{IsSomeAnd}
 use Rattle.std.proofs.lemmas.Bool.Decides.{nat_tests}
 use Rattle.std.specs.Prelude.{nat_lt}
@@ -12,7 +11,7 @@ use Rattle.storage_model.specs.declared.plan.Fill.{Fill}
 use Rattle.array_edge.specs.Array.{ArrayState, IsTorn, page_at, with_page}
 use Rattle.intent_store.specs.Intent.{shown_by}
 use Rattle.cqmmc_top.specs.Moves.{Wrote, WroteSome}
-use Rattle.cqmmc_top.specs.Serial.{put_blocks, fill_blocks, next_fill, IsNearBase, IsTornAt}
+use Rattle.cqmmc_top.specs.Serial.{put_blocks, fill_blocks, next_fill, IsNearBase}
 
 put_last : (blocks : List Block) (base : List Block) (first : ℕ) (block : Block) → put_blocks base first (blocks ++ block ∷ []) ≡ set (put_blocks base first blocks) (first + length blocks) block
 put_last [] base first block = ap (λ k. set base k block) (sym (add-zero first))

@@ -1,8 +1,8 @@
 -- Why a run is refused, and what it begins with.
-use Rattle.std.specs.Prelude.{◌≡◌, ◌⊎◌, ℕ, ◌+◌, nat_lt, Bool, false, All, List, Option, None, Some, IfSome, position, vec_len}
+use Rattle.std.specs.Prelude.{◌≡◌, ℕ, ◌+◌, nat_lt, Bool, false, All, List, Option, None, Some, position, vec_len}
 use Rattle.storage_model.specs.Count.{Count, Later}
 use Rattle.storage_model.specs.declared.plan.Job.{Job}
-use Rattle.storage_model.specs.declared.plan.Job.TheVariants.{Read, Write, Flush, Barrier, Status}
+use Rattle.storage_model.specs.declared.plan.Job.TheVariants.{Read, Write}
 use Rattle.storage_model.specs.declared.plan.Plan.{Plan}
 use Rattle.array_edge.specs.Array.{ArrayState}
 use Rattle.intent_store.specs.Intent.{ShowsImage, shown_by}

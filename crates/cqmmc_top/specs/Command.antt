@@ -1,5 +1,5 @@
 -- What a command answers: its status, what it wrote, and what the image shows then.
-use Rattle.std.specs.Prelude.{◌≡◌, ◌⊎◌, ℕ, ◌+◌, List, [], ◌∷◌, length, Option, IfSome, Result, Ok, Err, codes, None, position}
+use Rattle.std.specs.Prelude.{◌≡◌, ◌⊎◌, ℕ, ◌+◌, ◌≤◌, List, [], ◌∷◌, ◌++◌, decimal, length, Option, IfSome, Result, Ok, Err, codes, None, position}
 use Rattle.storage_model.specs.Count.{Count, Later, Rose}
 use Rattle.storage_model.specs.declared.ends.Halt.{Halt}
 use Rattle.storage_model.specs.declared.ends.Halt.TheVariants.{SinkFailed, OpenFault, PowerGone, BadImage}
@@ -8,11 +8,14 @@ use Rattle.array_edge.specs.Array.{ArrayState}
 use Rattle.io_edge.specs.Sink.{TookPart}
 use Rattle.intent_store.specs.Intent.{ShowsImage, shown_by}
 use Rattle.cqmmc_top.specs.declared.command.Command.{Command}
-use Rattle.cqmmc_top.specs.declared.command.Command.TheVariants.{Run}
+use Rattle.cqmmc_top.specs.declared.command.Command.TheVariants.{Run, ExtCsd, New}
 use Rattle.cqmmc_top.specs.declared.refusal.Refusal.{Refusal}
 use Rattle.cqmmc_top.specs.declared.refusal.Refusal.TheVariants.{Usage}
 use Rattle.cqmmc_top.specs.Answers.{IsRunRefused, is_past}
-use Rattle.cqmmc_top.specs.Opened.{HasSectors}
+use Rattle.cqmmc_top.specs.Opened.{HasSectors, OpeningRefused}
+use Rattle.cqmmc_top.specs.Listing.{csd_text}
+use Rattle.cqmmc_top.specs.Made.{IsZeroImage, MakingRefused}
+use Rattle.ext_csd.specs.Values.{fresh}
 use Rattle.cqmmc_top.specs.Print.{HasCause, Served}
 use Rattle.cqmmc_top.specs.Refusal.{status_of, refusal_text}
 use Rattle.cqmmc_top.specs.Serial.{after_jobs, ended, start}
@@ -25,9 +28,23 @@ pub record IsRun (words : List (List ℕ)) : Type 0 where
   pub faults : List ℕ
   pub are : words ≡ codes "run" ∷ image ∷ requests ∷ faults ∷ []
 
+-- `extcsd IMAGE`
+pub record IsExtCsd (words : List (List ℕ)) : Type 0 where
+  pub image : List ℕ
+  pub are : words ≡ codes "extcsd" ∷ image ∷ []
+
+-- `new IMAGE SECTORS`, the number in decimal without leading zeros
+pub record IsNew (sectors : ℕ) (words : List (List ℕ)) : Type 0 where
+  pub image : List ℕ
+  pub are : words ≡ codes "new" ∷ image ∷ decimal sectors ∷ []
+  pub some : 1 ≤ sectors
+  pub most : sectors ≤ 65536
+
 -- the words call the command
 abbrev pub IsCommand : Command → List (List ℕ) → Type 0
 IsCommand Run words = IsRun words
+IsCommand ExtCsd words = IsExtCsd words
+IsCommand (New sectors) words = IsNew sectors words
 
 -- the status of a run, by how it ended
 abbrev pub run_status : Result (Unit {0}) Halt → ℕ
@@ -69,7 +86,46 @@ module _ {K : Type 0} (took : K → List ℕ → K → Type 0) (faults_of : K �
   -- a run is refused, or its requests are served
   abbrev pub RunAnswers : Option (List ℕ) → Count → Count → Option (List ℕ) → Count → Count → ArrayState → ArrayState → K → ℕ → K → Type 0
   RunAnswers requests first first' faults second second' old new out status out' =
-    IsRefusedRun requests first first' faults second second' old new out status out' ⊎ IsServed requests faults old new out status out'
+      IsRefusedRun requests first first' faults second second' old new out status out' ⊎ IsServed requests faults old new out status out'
+
+  -- a text was written whole, or the sink failed within it
+  abbrev pub Lists : List ℕ → K → ℕ → K → Type 0
+  Lists text out status out' = ((status ≡ 0) × took out text out') ⊎ ((status ≡ 5) × TookPart took out text out' × Rose (faults_of out) (faults_of out'))
+
+  -- an image wasn't opened, and shows what it showed
+  pub record IsUnopened (old new : ArrayState) (out : K) (status : ℕ) (out' : K) : Type 0 where
+    pub refusal : Refusal
+    pub cause : OpeningRefused old new refusal
+    pub says : Says refusal out status out'
+    pub shown : shown_by new ≡ shown_by old
+    pub kept : ShowsImage old → ShowsImage new
+
+  -- the fields of the card on the image were listed: a card of 16 tasks and 64 cache lines
+  pub record IsListed (old new : ArrayState) (out : K) (status : ℕ) (out' : K) : Type 0 where
+    pub sectors : ℕ
+    pub image : ShowsImage old
+    pub has_sectors : HasSectors old sectors
+    pub lists : Lists (csd_text (fresh sectors 16 64)) out status out'
+    pub shown : shown_by new ≡ shown_by old
+    pub kept : ShowsImage old → ShowsImage new
+
+  abbrev pub ListAnswers : ArrayState → ArrayState → K → ℕ → K → Type 0
+  ListAnswers old new out status out' = IsUnopened old new out status out' ⊎ IsListed old new out status out'
+
+  -- no image was made
+  pub record IsUnmade (sectors : ℕ) (old new : ArrayState) (out : K) (status : ℕ) (out' : K) : Type 0 where
+    pub refusal : Refusal
+    pub cause : MakingRefused sectors old new refusal
+    pub says : Says refusal out status out'
+
+  -- an image of zero sectors was made
+  pub record IsMade (sectors : ℕ) (old new : ArrayState) (out : K) (status : ℕ) (out' : K) : Type 0 where
+    pub room : 8 + sectors ≤ old.count
+    pub made : IfSome new.told (IsZeroImage sectors)
+    pub lists : Lists (codes "new " ++ decimal sectors ++ codes "\n") out status out'
+
+  abbrev pub MakeAnswers : ℕ → ArrayState → ArrayState → K → ℕ → K → Type 0
+  MakeAnswers sectors old new out status out' = IsUnmade sectors old new out status out' ⊎ IsMade sectors old new out status out'
 
   -- words that call nothing are told the usage and touch nothing
   pub record IsUsage (words : List (List ℕ)) (old new : ArrayState) (out : K) (status : ℕ) (out' : K) : Type 0 where
@@ -82,6 +138,16 @@ module _ {K : Type 0} (took : K → List ℕ → K → Type 0) (faults_of : K �
     pub form : IsRun words
     pub answers : RunAnswers requests first first' faults second second' old new out status out'
 
+  pub record IsAnsweredList (words : List (List ℕ)) (old new : ArrayState) (out : K) (status : ℕ) (out' : K) : Type 0 where
+    pub form : IsExtCsd words
+    pub answers : ListAnswers old new out status out'
+
+  pub record IsAnsweredNew (words : List (List ℕ)) (old new : ArrayState) (out : K) (status : ℕ) (out' : K) : Type 0 where
+    pub sectors : ℕ
+    pub form : IsNew sectors words
+    pub answers : MakeAnswers sectors old new out status out'
+
   abbrev pub Answers : List (List ℕ) → Option (List ℕ) → Count → Count → Option (List ℕ) → Count → Count → ArrayState → ArrayState → K → ℕ → K → Type 0
   Answers words requests first first' faults second second' old new out status out' =
-    IsUsage words old new out status out' ⊎ IsAnsweredRun words requests first first' faults second second' old new out status out'
+      IsUsage words old new out status out' ⊎ (IsAnsweredRun words requests first first' faults second second' old new out status out'
+      ⊎ (IsAnsweredList words old new out status out' ⊎ IsAnsweredNew words old new out status out'))

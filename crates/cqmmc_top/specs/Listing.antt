@@ -1,6 +1,6 @@
 -- The listing of the extended CSD: a line for each field, `INDEX NAME VALUE`, in the order of the table (JESD84-B51,
 -- section 7.4).
-use Rattle.std.specs.Prelude.{ℕ, List, ◌∷◌, [], ◌++◌, flat_map, codes, decimal}
+use Rattle.std.specs.Prelude.{ℕ, List, ◌∷◌, [], ◌++◌, flat_map, decimal}
 use Rattle.ext_csd.specs.declared.csd.ExtCsd.{ExtCsd}
 use Rattle.ext_csd.specs.declared.field.Field.{Field}
 use Rattle.ext_csd.specs.declared.field.TheConstants.Field.{ALL}

@@ -5,7 +5,7 @@ use Rattle.storage_model.specs.declared.block.Block.{Block}
 use Rattle.array_edge.specs.Array.{ArrayState, page_at}
 use Rattle.image_form.specs.Image.{IsImage, sectors_of, shown}
 use Rattle.cqmmc_top.specs.declared.refusal.Refusal.{Refusal}
-use Rattle.cqmmc_top.specs.declared.refusal.Refusal.TheVariants.{Usage, BadRequests, BadFaults, ReadFault, BadImage, ArrayFault, NoPower, NoMemory}
+use Rattle.cqmmc_top.specs.declared.refusal.Refusal.TheVariants.{BadImage, ArrayFault, NoPower}
 
 abbrev pub zero_block : Block
 zero_block = record { 0 = replicate 512 0 }

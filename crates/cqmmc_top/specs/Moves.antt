@@ -1,5 +1,5 @@
 -- What the image shows after the sectors of a write.
-use Rattle.std.specs.Prelude.{◌≡◌, ◌≤◌, ℕ, List, Option, option_map, IfSome, Result, Ok, Err}
+use Rattle.std.specs.Prelude.{◌≡◌, ◌≤◌, ℕ, List, option_map, IfSome, Result, Ok, Err}
 use Rattle.std.specs.Option.{IsSomeAnd}
 use Rattle.storage_model.specs.Count.{Later, Rose}
 use Rattle.storage_model.specs.declared.block.Block.{Block}

@@ -1,10 +1,10 @@
 -- An image that was opened.
-use Rattle.std.specs.Prelude.{◌≡◌, ◌⊎◌, ◌≤◌, ℕ, ◌+◌, Bool, true, length, IfSome}
+use Rattle.std.specs.Prelude.{◌≡◌, ◌⊎◌, ◌≤◌, ℕ, ◌+◌, true, length, IfSome}
 use Rattle.storage_model.specs.Count.{Rose}
 use Rattle.array_edge.specs.Array.{ArrayState}
 use Rattle.intent_store.specs.Intent.{Known, IntentStands, IsNoImage, shown_by}
 use Rattle.cqmmc_top.specs.declared.refusal.Refusal.{Refusal}
-use Rattle.cqmmc_top.specs.declared.refusal.Refusal.TheVariants.{Usage, BadRequests, BadFaults, ReadFault, BadImage, ArrayFault, NoPower, NoMemory}
+use Rattle.cqmmc_top.specs.declared.refusal.Refusal.TheVariants.{BadImage, ArrayFault, NoPower}
 
 -- the intent store stands on the array, and the power is on
 pub record IsOpen (intent : Known) (array : ArrayState) : Type 0 where

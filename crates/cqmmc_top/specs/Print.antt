@@ -1,5 +1,5 @@
 -- What was printed while requests were served, and how that ended.
-use Rattle.std.specs.Prelude.{◌≡◌, ◌⊎◌, IfErr, ℕ, ◌<◌, List, ◌++◌, length, take, Option, Result, Ok, Err, IsErrOf, IfSome}
+use Rattle.std.specs.Prelude.{◌≡◌, ◌⊎◌, IfErr, ℕ, ◌<◌, List, ◌++◌, length, take, Option, Result, Ok, Err, IsErrOf}
 use Rattle.std.specs.Option.{IsSomeAnd}
 use Rattle.std.specs.Result.{IsErrAnd}
 use Rattle.storage_model.specs.Count.{Count, Later, Rose}
@@ -7,7 +7,7 @@ use Rattle.storage_model.specs.declared.block.Block.{Block}
 use Rattle.storage_model.specs.declared.ends.Halt.{Halt}
 use Rattle.storage_model.specs.declared.ends.Halt.TheVariants.{SinkFailed, OpenFault, PowerGone, BadImage}
 use Rattle.storage_model.specs.declared.trace.End.{End}
-use Rattle.storage_model.specs.declared.trace.End.TheVariants.{Good, Fault, Dead, Image}
+use Rattle.storage_model.specs.declared.trace.End.TheVariants.{Fault, Dead}
 use Rattle.storage_model.specs.declared.trace.Item.{Item}
 use Rattle.storage_model.specs.declared.trace.Item.TheVariants.{Off}
 use Rattle.intent_store.specs.declared.ends.StoreEnd.{StoreEnd}

@@ -1,6 +1,6 @@
 -- Requests served one at a time, each write straight to the array: the lines that may be printed, and what they say of
 -- the image.
-use Rattle.std.specs.Prelude.{◌≡◌, ◌≢◌, ◌⊎◌, ℕ, ◌+◌, ◌<◌, ◌≤◌, nat_lt, Bool, true, false, if◌then◌else◌, List, [], ◌∷◌, length, take, drop, map, Option, None, Some, slice_set, slice_index_or}
+use Rattle.std.specs.Prelude.{◌≡◌, ◌≢◌, ◌⊎◌, ℕ, ◌+◌, ◌<◌, ◌≤◌, nat_lt, Bool, true, false, if◌then◌else◌, List, [], ◌∷◌, length, take, drop, map, Option, None, Some, slice_set}
 use Rattle.std.specs.List.{range_with_len}
 use Rattle.std.specs.Option.{IsSomeAnd}
 use Rattle.storage_model.specs.Granule.{IsMix}
@@ -9,9 +9,9 @@ use Rattle.array_edge.specs.Array.{page_at}
 use Rattle.storage_model.specs.declared.block.Block.{Block}
 use Rattle.storage_model.specs.declared.plan.Fill.{Fill}
 use Rattle.storage_model.specs.declared.plan.Job.{Job}
-use Rattle.storage_model.specs.declared.plan.Job.TheVariants.{Read as ReadJob, Write as WriteJob, Flush, Barrier, Status as StatusJob}
+use Rattle.storage_model.specs.declared.plan.Job.TheVariants.{Read as ReadJob, Write as WriteJob}
 use Rattle.storage_model.specs.declared.trace.End.{End}
-use Rattle.storage_model.specs.declared.trace.End.TheVariants.{Good, Fault, Dead, Image}
+use Rattle.storage_model.specs.declared.trace.End.TheVariants.{Good, Fault, Dead}
 use Rattle.storage_model.specs.declared.trace.Item.{Item}
 use Rattle.storage_model.specs.declared.trace.Item.TheVariants.{Card, Issue, Phase, Done, Read, Sector, Off}
 

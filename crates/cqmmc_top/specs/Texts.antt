@@ -6,7 +6,7 @@ use Rattle.storage_model.specs.declared.plan.Plan.{Plan}
 use Rattle.script_text.specs.Requests.{Means, IsBadAt, IsRequest, HasDefaults}
 use Rattle.script_text.specs.Faults.{FaultsBadAt}
 use Rattle.cqmmc_top.specs.declared.refusal.Refusal.{Refusal}
-use Rattle.cqmmc_top.specs.declared.refusal.Refusal.TheVariants.{Usage, BadRequests, BadFaults, ReadFault, BadImage, ArrayFault, NoPower, NoMemory}
+use Rattle.cqmmc_top.specs.declared.refusal.Refusal.TheVariants.{BadRequests, BadFaults, ReadFault, NoMemory}
 
 -- the plan that a request text means
 pub record IsPlanOf (text : Option (List ℕ)) (plan : Plan) : Type 0 where

@@ -1,5 +1,5 @@
 // The words of the program, and the command that they call.
-ghost use Rattle.std.specs.Prelude.{◌≡◌, ℕ, List, Option, All, IfSome, IfNone, IsTrue, ◌↔◌, map, string_bytes, vec_len};
+ghost use Rattle.std.specs.Prelude.{◌≡◌, ◌+◌, ◌≤◌, decimal, ℕ, List, Option, All, IfSome, IfNone, IsTrue, ◌↔◌, map, string_bytes, vec_len};
 ghost use Rattle.storage_model.specs.Plan.{IsValidPlan};
 ghost use Rattle.array_edge.specs.Array.{ArrayState};
 ghost use Rattle.script_text.specs.Requests.{HasDefaults};
@@ -7,21 +7,44 @@ ghost use Rattle.cqmmc_top.specs.Answers.{IsReady, IsSince};
 ghost use Rattle.cqmmc_top.specs.Opened.{IsOpen};
 ghost use Rattle.cqmmc_top.specs.Serial.{IsServable};
 ghost use Rattle.cqmmc_top.specs.declared.command.Command.{Command as CommandOf};
-ghost use Rattle.cqmmc_top.specs.Command.{Answers, IsCommand, IsServed, RunAnswers, Says, run_status};
+ghost use Rattle.cqmmc_top.specs.declared.command.Command.TheVariants.{New as NewOf};
+ghost use Rattle.cqmmc_top.specs.Command.{Answers, IsCommand, IsNew, IsServed, ListAnswers, MakeAnswers, RunAnswers, Says};
 
+use crate::listing::put_csd;
+use crate::make::make_image;
+use crate::opening::open;
 use crate::prepare::{Ready, prepare};
-use crate::refusal::Refusal;
+use crate::refusal::{Refusal, put_numbered};
 use crate::run::run_plan;
 use array_edge::Array;
+use ext_csd::ExtCsd;
 use io_edge::{Sink, Source};
 use std::alloc::Global;
 use storage_model::Halt;
+use text_words::read_decimal;
 
 /// A command with its words.
 #[derive(Clone, Copy, Debug, PartialEq, Eq)]
 pub enum Command {
     /// `run IMAGE REQUESTS FAULTS`
     Run,
+    /// `extcsd IMAGE`
+    ExtCsd,
+    /// `new IMAGE SECTORS`, of 1 to 65,536 sectors
+    New { sectors: u32 },
+}
+
+/// How many pages `new` makes: 8 and one for each sector. None comes exactly where the words are no form of `new`.
+pub fn new_pages(words: &[String]) -> Option<u32>
+    ensures some { IfSome result (λ pages. (sectors : ℕ) × IsNew sectors (map string_bytes words.now) × (pages ≡ 8 + sectors)) }
+    ensures none { IfNone result ((sectors : ℕ) → IsNew sectors (map string_bytes words.now) → ⊥) }
+{
+    match command_of(words) {
+        Some(Command::New { sectors }) => Some(8 + sectors),
+        Some(Command::Run) => None,
+        Some(Command::ExtCsd) => None,
+        None => None,
+    }
 }
 
 /// Runs the command that the words call, over an array, three sources for its texts and a sink for its lines, and gives
@@ -42,6 +65,8 @@ pub fn run_command<A: Array, S1: Source, S2: Source, S3: Source, K: Sink>(
     let status = match command_of(words) {
         None => refuse(Refusal::Usage, out),
         Some(Command::Run) => run(alloc, first, second, &mut array, out),
+        Some(Command::ExtCsd) => list(&mut array, out),
+        Some(Command::New { sectors }) => make(sectors, &mut array, out),
     };
     (status, array)
 }
@@ -83,6 +108,34 @@ fn serve_all<A: Array, K: Sink>(ready: Ready, array: &mut A, out: &mut K) -> u8
     }
 }
 
+// Lists the extended CSD of the card on an image, with 16 tasks and 64 cache lines.
+fn list<A: Array, K: Sink>(array: &mut A, out: &mut K) -> u8
+    ensures { ListAnswers K.took K.faults (A.state array.old) (A.state array.new) out.old result out.new }
+{
+    match open(array) {
+        Err(refusal) => refuse(refusal, out),
+        Ok(intent) => match put_csd(&ExtCsd::new(intent.sectors(), 16, 64), out) {
+            Ok(()) => 0,
+            Err(_) => 5,
+        },
+    }
+}
+
+// Makes an image.
+fn make<A: Array, K: Sink>(sectors: u32, array: &mut A, out: &mut K) -> u8
+    requires some { 1 ≤ sectors }
+    requires most { sectors ≤ 65536 }
+    ensures { MakeAnswers K.took K.faults sectors (A.state array.old) (A.state array.new) out.old result out.new }
+{
+    match make_image(sectors, array) {
+        Err(refusal) => refuse(refusal, out),
+        Ok(()) => match put_numbered(b"new ", sectors, out) {
+            Ok(()) => 0,
+            Err(_) => 5,
+        },
+    }
+}
+
 // The command of some words, if they are of a form.
 fn command_of(words: &[String]) -> Option<Command>
     ensures some { IfSome result (λ command. IsCommand command (map string_bytes words.now)) }
@@ -90,8 +143,25 @@ fn command_of(words: &[String]) -> Option<Command>
 {
     match words {
         [command, _, _, _] if is_word(command, "run") => Some(Command::Run),
+        [command, _] if is_word(command, "extcsd") => Some(Command::ExtCsd),
+        [command, _, sectors] if is_word(command, "new") => new_of(sectors),
         _ => None,
     }
+}
+
+// `new` with its number of sectors, if that is one.
+fn new_of(sectors: &String) -> Option<Command>
+    ensures some { IfSome result (λ command. (n : ℕ) × (command ≡ NewOf n) × (1 ≤ n) × (n ≤ 65536) × (string_bytes sectors.now ≡ decimal n)) }
+    ensures none { IfNone result ((n : ℕ) → 1 ≤ n → n ≤ 65536 → string_bytes sectors.now ≡ decimal n → ⊥) }
+{
+    let sectors = read_decimal(sectors.as_bytes())?;
+    if sectors < 1 {
+        return None;
+    }
+    if sectors > 65536 {
+        return None;
+    }
+    Some(Command::New { sectors })
 }
 
 fn is_word(word: &String, text: &str) -> bool

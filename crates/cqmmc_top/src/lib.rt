@@ -13,4 +13,4 @@ mod run;
 mod serve;
 mod texts;
 
-pub use command::run_command;
+pub use command::{new_pages, run_command};

@@ -38,11 +38,13 @@ fn put_field<K: Sink>(field: Field, csd: &ExtCsd, out: &mut K) -> Result<(), Fai
     let mut line: ArrayVec<u8, 128> = ArrayVec::new();
     let mut index = Buffer::new();
     let mut value = Buffer::new();
-    line.try_extend_from_slice(index.format(field.index()).as_bytes()).unwrap();
+    line.try_extend_from_slice(index.format(field.index()).as_bytes())
+        .unwrap();
     line.push(b' ');
     line.try_extend_from_slice(field.name().as_bytes()).unwrap();
     line.push(b' ');
-    line.try_extend_from_slice(value.format(csd.get(field)).as_bytes()).unwrap();
+    line.try_extend_from_slice(value.format(csd.get(field)).as_bytes())
+        .unwrap();
     line.push(b'\n');
     put_all(out, line.as_slice())
 }

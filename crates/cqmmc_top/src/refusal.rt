@@ -13,12 +13,8 @@ use itoa::Buffer;
 pub enum Refusal {
     /// The words are none of the forms.
     Usage,
-    BadRequests {
-        line: u32,
-    },
-    BadFaults {
-        line: u32,
-    },
+    BadRequests { line: u32 },
+    BadFaults { line: u32 },
     /// A text's source failed.
     ReadFault,
     /// The pages are no image, or too few for one.
@@ -65,8 +61,8 @@ impl Refusal {
     }
 }
 
-// A text, a number and a line feed, as one piece.
-fn put_numbered<K: Sink>(text: &[u8], number: u32, out: &mut K) -> Result<(), Failed>
+/// Writes a text, a number and a line feed, as one piece.
+pub fn put_numbered<K: Sink>(text: &[u8], number: u32, out: &mut K) -> Result<(), Failed>
     requires { length text.now ≤ 40 }
     ensures wrote { Wrote K.took out.old (text.now ++ decimal number ++ codes "\n") result out.new }
     ensures faults { Later (K.faults out.old) (K.faults out.new) }
@@ -75,7 +71,8 @@ fn put_numbered<K: Sink>(text: &[u8], number: u32, out: &mut K) -> Result<(), Fa
     let mut line: ArrayVec<u8, 96> = ArrayVec::new();
     let mut buffer = Buffer::new();
     line.try_extend_from_slice(text).unwrap();
-    line.try_extend_from_slice(buffer.format(number).as_bytes()).unwrap();
+    line.try_extend_from_slice(buffer.format(number).as_bytes())
+        .unwrap();
     line.push(b'\n');
     put_all(out, line.as_slice())
 }

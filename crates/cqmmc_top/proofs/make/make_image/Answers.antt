@@ -8,7 +8,7 @@ pub returns-clause-made : goal.returns-clause-made
 returns-clause-made g c =
     on_ok_weaker _
     (λ written. image_made c.args.sectors c.write_super-superblock.result c.write_gate.result (c.write_super-superblock.ensures.form refl c.requires.some c.requires.most) (c.write_gate.ensures.form c.args.sectors (omega arith))
-      (g.A.Array.state c.power_on.new.self).told (g.A.Array.state c.program_page.new.array).told (g.A.Array.state c.program_page-2.new.array).told (g.A.Array.state c.clear_pages.new.array).told (g.A.Array.state c.settle.new.array).told (g.A.Array.state c.program_page-3.new.array).told
-      (wide _ _ (8 + c.args.sectors) (g.met.A.Array.told_count c.power_on.new.self) (omega (arith, ap (λ (s : ArrayState). s.count) c.power_on.ensures, c.pages.ensures)))
-      c.in_ok-program_page.ensures.written c.in_ok-program_page-2.ensures.written c.in_ok-clear_pages.ensures.blank c.in_ok-settle.ensures.same written)
+    (g.A.Array.state c.power_on.new.self).told (g.A.Array.state c.program_page.new.array).told (g.A.Array.state c.program_page-2.new.array).told (g.A.Array.state c.clear_pages.new.array).told (g.A.Array.state c.settle.new.array).told (g.A.Array.state c.program_page-3.new.array).told
+    (wide _ _ (8 + c.args.sectors) (g.met.A.Array.told_count c.power_on.new.self) (omega (arith, ap (λ (s : ArrayState). s.count) c.power_on.ensures, c.pages.ensures)))
+    c.in_ok-program_page.ensures.written c.in_ok-program_page-2.ensures.written c.in_ok-clear_pages.ensures.blank c.in_ok-settle.ensures.same written)
     c.program_page-3.ensures.written

@@ -1,4 +1,4 @@
-use Rattle.std.proofs.Common.{rules, arith}
+use Rattle.std.proofs.Common.{arith}
 use Rattle.std.proofs.lemmas.Grind.{common_steps}
 use Rattle.cqmmc_top.proofs.Writing.{wrote_more, wrote_some}
 use Rattle.cqmmc_top.proofs.moves.program_all.Goals as goal

@@ -1,4 +1,4 @@
-use Rattle.std.proofs.Common.{◌≡◌, ◌+◌, Some, sym, ◌∙◌, length}
+use Rattle.std.proofs.Common.{◌≡◌, ◌+◌, sym, ◌∙◌, length}
 use Rattle.io_edge.specs.Sink.{Joins}
 use Rattle.std.proofs.lemmas.Result.{err_from_is_err_and}
 use Rattle.cqmmc_top.proofs.Running.{card_cut, card_printed, halted_after_card, ended_after_all, shows_some}

@@ -1,4 +1,4 @@
-use Rattle.std.proofs.Common.{◌≡◌, ◌+◌, refl, arith, length, take, drop, ap, None}
+use Rattle.std.proofs.Common.{◌+◌, refl, arith, length, take, drop, ap, None}
 use Rattle.std.proofs.lemmas.Grind.{common_steps}
 use Rattle.std.proofs.lemmas.Result.{err_from_is_err_and}
 use Rattle.io_edge.specs.Sink.{Joins}

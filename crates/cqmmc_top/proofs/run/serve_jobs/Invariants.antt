@@ -1,5 +1,4 @@
 use Rattle.std.proofs.Common.{◌≡◌, ◌+◌, List, Some, take, drop, length}
-use Rattle.std.specs.Option.{IsSomeAnd}
 use Rattle.storage_model.specs.Count.{Later}
 use Rattle.storage_model.specs.declared.block.Block.{Block}
 use Rattle.intent_store.specs.Intent.{shown_by}

@@ -1,8 +1,8 @@
-use Rattle.std.proofs.Common.{refl, arith}
+use Rattle.std.proofs.Common.{arith}
 use Rattle.std.proofs.lemmas.Grind.{common_steps}
 use Rattle.std.proofs.lemmas.Result.{err_from_is_err_and}
 use Rattle.io_edge.specs.Sink.{Joins}
-use Rattle.cqmmc_top.specs.Serial.{answered, showing, none}
+use Rattle.cqmmc_top.specs.Serial.{answered, showing}
 use Rattle.cqmmc_top.proofs.Serving.{sector_printed, sector_cut, sectors_printed, nothing_printed}
 use Rattle.cqmmc_top.proofs.serve.print_sectors.Goals as goal
 
