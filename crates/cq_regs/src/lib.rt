@@ -2,6 +2,12 @@
 //! does, and how far the tasks of the 32 slots have come.
 #![tactic(auto)]
 
+mod coalesce;
+mod registers;
 mod slots;
+mod table;
 
-pub use slots::{Progress, Ringed};
+pub use coalesce::Coalescing;
+pub use registers::{NoRegister, Regs};
+pub use slots::{Progress, Ring, Ringed};
+pub use table::{Access, Register, Row, TABLE, row_at};

@@ -99,7 +99,7 @@ impl Ringed {
     fn readied_by(self, word: u32) -> Ringed
         ensures { result ≡ readied_by word self }
     {
-        if is_slot_of(word, self.slot) {
+        if is_set(word, self.slot) {
             Ringed {
                 progress: self.progress.readied(),
                 ..self
@@ -186,12 +186,12 @@ impl Ring {
     pub fn remove_all(&mut self, word: u32)
         ensures { self.new ≡ without_slots self.old word }
     {
-        self.slots.retain(|r| !is_slot_of(word, r.slot));
+        self.slots.retain(|r| !is_set(word, r.slot));
     }
 }
 
 // Whether the bit of a slot is set in a word.
-fn is_slot_of(word: u32, slot: u8) -> bool
+pub(crate) fn is_set(word: u32, slot: u8) -> bool
     ensures { result ≡ has_bit word slot }
 {
     if slot < 32 {
@@ -208,7 +208,7 @@ fn find_slot(slots: &[Ringed], slot: u8) -> Option<Ringed>
 }
 
 // The word with the bit of a slot.
-fn slot_bit(slot: u8) -> u32
+pub(crate) fn slot_bit(slot: u8) -> u32
     requires { slot < 32 }
     ensures { result ≡ 2 ^ slot }
 {
@@ -221,7 +221,7 @@ fn ring_slots(ring: &mut ArrayVec<Ringed, 32>, anew: u32)
     ensures { ring.new.items ≡ with_first ring.old.items anew 32 }
 {
     for slot in 0..32u8 {
-        if is_slot_of(anew, slot) {
+        if is_set(anew, slot) {
             ring.push(Ringed {
                 slot,
                 progress: Progress::Rung,

@@ -1,7 +1,7 @@
 use Rattle.std.proofs.Common.{◌≡◌, ◌<◌, ◌++◌, ◌∷◌, [], ap, ◌∙◌, sym, subst, length, arith}
 use Rattle.cq_regs.specs.Slots.{newly_rung}
 use Rattle.cq_regs.proofs.RungLaws.{room, with_first-set, with_first-clear, with_first-none}
-use Rattle.cq_regs.proofs.slots.ring_slots.Goals.{then-is_slot_of, else-is_slot_of}
+use Rattle.cq_regs.proofs.slots.ring_slots.Goals.{then-is_set, else-is_set}
 use Rattle.cq_regs.proofs.slots.ring_slots.Goals as goal
 
 pub loop-slot-init : goal.loop-slot-init
@@ -11,17 +11,17 @@ pub push-requires : goal.push-requires
 push-requires c = (
   omega arith,
   rw c.loop-slot.invariant
-      (room c.args.ring.now.items c.args.anew c.loop-slot.slot c.requires.ring c.requires.apart c.loop-slot-test.true (sym c.if-is_slot_of.ensures)),
+      (room c.args.ring.now.items c.args.anew c.loop-slot.slot c.requires.ring c.requires.apart c.loop-slot-test.true (sym c.if-is_set.ensures)),
 )
 
 pub loop-slot-preserved : goal.loop-slot-preserved
 loop-slot-preserved c =
-    elim c.if-is_slot_of.branch [
-      | then-is_slot_of w ↦
+    elim c.if-is_set.branch [
+      | then-is_set w ↦
           ap (λ ring. ring.items) w.ring-is ∙ w.push.ensures.items
           ∙ ap (λ ring. ring ++ newly_rung c.loop-slot.slot ∷ []) c.loop-slot.invariant
-          ∙ sym (with_first-set c.args.ring.now.items c.args.anew c.loop-slot.slot (sym w.if-is_slot_of.ensures))
-      | else-is_slot_of w ↦
+          ∙ sym (with_first-set c.args.ring.now.items c.args.anew c.loop-slot.slot (sym w.if-is_set.ensures))
+      | else-is_set w ↦
           ap (λ ring. ring.items) w.ring-is ∙ c.loop-slot.invariant
-          ∙ sym (with_first-clear c.args.ring.now.items c.args.anew c.loop-slot.slot (sym w.if-is_slot_of.ensures))
+          ∙ sym (with_first-clear c.args.ring.now.items c.args.anew c.loop-slot.slot (sym w.if-is_set.ensures))
     ]

@@ -4,7 +4,7 @@ use Rattle.std.proofs.lemmas.Nat.Bits.{bit_at_above}
 use Rattle.std.specs.Int.{bit_at}
 use Rattle.std.specs.Prelude.{◌==◌}
 use Rattle.cq_regs.specs.Slots.{has_bit}
-use Rattle.cq_regs.proofs.slots.is_slot_of.Goals as goal
+use Rattle.cq_regs.proofs.slots.is_set.Goals as goal
 
 past : (word slot : ℕ) → word < 2 ^ 32 → 32 ≤ slot → false ≡ has_bit word slot
 past word slot fits high = rw (bit_at_above word 32 slot fits high)
