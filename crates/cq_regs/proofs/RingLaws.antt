@@ -1,23 +1,21 @@
 -- What a change of the rung slots keeps, and the bits of their words.
-use Rattle.std.proofs.Common.{◌≡◌, ◌≢◌, ℕ, zero, suc, ◌+◌, ◌-◌, ◌^◌, ◌<◌, ◌≤◌, Bool, true, false, List, [], ◌∷◌, ◌++◌, map, length, get_or, take, drop, set, refl, sym, ap, ◌∙◌, max, arith, subst}
-use Rattle.std.specs.Prelude.{◌==◌, ◌||◌, not, cond, Option, Some, None, if◌then◌else◌}
+use Rattle.std.proofs.Common.{◌≡◌, ◌≢◌, ℕ, suc, ◌+◌, ◌^◌, ◌<◌, Bool, true, false, List, [], ◌∷◌, ◌++◌, map, length, get_or, take, drop, set, refl, sym, ap, ◌∙◌, max, arith, subst}
+use Rattle.std.specs.Prelude.{◌==◌, ◌||◌, cond, Option, Some}
 use Rattle.std.specs.Option.{option_map_or}
 use Rattle.std.specs.Int.{bit_at, from_bool}
-use Rattle.std.specs.Int.RustNames.{bit_or}
-use Rattle.std.specs.List.{All, AllPairs, filter, find, fold, list_any, range_with_len, IsDistinct}
-use Rattle.std.proofs.lemmas.Bool.{eq-eqb, eqb-true, eqb-false, false≢true}
-use Rattle.std.proofs.lemmas.Bool.Decides.{nat_tests}
+use Rattle.std.specs.List.{All, AllPairs, filter, find, fold, list_any}
+use Rattle.std.proofs.lemmas.Bool.{eq-eqb, eqb-true, eqb-false}
 use Rattle.std.proofs.lemmas.List.{get_or-map, get_or_default, length-map}
 use Rattle.std.proofs.lemmas.List.Edits.{map_over_more}
-use Rattle.std.proofs.lemmas.List.Elements.{All-nil, All-head, All-tail, All-filter, All-map, All-push, All-weaker}
-use Rattle.std.proofs.lemmas.List.Kept.{AllPairs-filter, AllPairs-cons}
+use Rattle.std.proofs.lemmas.List.Elements.{All-head, All-tail, All-filter, All-map, All-weaker}
+use Rattle.std.proofs.lemmas.List.Kept.{AllPairs-filter}
 use Rattle.std.proofs.lemmas.Nat.Bits.{bit_at_or, bit_at-zero, bit_at-pow_same, bit_at-pow_other}
 use Rattle.std.proofs.lemmas.List.Folds.{list_any-from_Any}
 use Rattle.std.proofs.Math.Seq.{take-append_seam}
 use Rattle.cq_regs.specs.declared.slots.Progress.{Progress}
 use Rattle.cq_regs.specs.declared.slots.Progress.TheVariants.{Idle, Rung, Named, Sent, Ready, Active}
 use Rattle.cq_regs.specs.declared.slots.Ringed.{Ringed}
-use Rattle.cq_regs.specs.Slots.{is_rung, is_sent, next, readied, moved_at, readied_by, progress_of, IsRing, with_slot, slots_word, sent_slots, has_bit, newly_rung}
+use Rattle.cq_regs.specs.Slots.{is_rung, is_sent, next, readied, moved_at, readied_by, progress_of, IsRing, with_slot, slots_word, sent_slots, has_bit}
 
 -- whether a slot is in the list
 abbrev pub has_slot : List Ringed → ℕ → Bool

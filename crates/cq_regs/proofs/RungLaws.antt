@@ -1,21 +1,19 @@
 -- What a write of the doorbell adds to the rung slots.
 use Rattle.std.proofs.Common.{◌≡◌, ◌≢◌, ℕ, zero, suc, ◌+◌, ◌-◌, ◌^◌, ◌<◌, ◌≤◌, Bool, true, false, List, [], ◌∷◌, ◌++◌, map, length, get_or, refl, sym, ap, ◌∙◌, min, arith, subst, append_assoc, add-one}
 use Rattle.std.specs.Prelude.{◌==◌, ◌||◌, ◌&&◌, not, cond}
-use Rattle.std.specs.Int.{bit_at, bit_not, from_bool, w32}
+use Rattle.std.specs.Int.{bit_at, from_bool, w32}
 use Rattle.std.specs.Int.RustNames.{bit_and}
 use Rattle.std.specs.List.{All, AllPairs, filter, list_any, IsDistinct}
-use Rattle.std.proofs.lemmas.Bool.{eq-eqb, eqb-true, eqb-false, false≢true}
+use Rattle.std.proofs.lemmas.Bool.{eqb-true, eqb-false, false≢true}
 use Rattle.std.proofs.lemmas.Bool.Decides.{nat_tests}
 use Rattle.std.proofs.lemmas.List.{append-nil, map-append, length-map, length-append, get_or-map}
-use Rattle.std.proofs.lemmas.List.Elements.{All-nil, All-cons, All-head, All-tail, All-filter, All-map, All-push, All-append, All-weaker, filter-append}
+use Rattle.std.proofs.lemmas.List.Elements.{All-nil, All-cons, All-head, All-tail, All-filter, All-map, All-push, All-weaker, filter-append}
 use Rattle.std.proofs.lemmas.List.Kept.{AllPairs-cons}
-use Rattle.std.proofs.lemmas.List.Folds.{list_any-append, Any-from_list_any}
+use Rattle.std.proofs.lemmas.List.Folds.{list_any-append}
 use Rattle.std.proofs.lemmas.Map.Keys.{IsDistinct-from_apart}
 use Rattle.std.proofs.lemmas.Map.Steps.{length-le_from_distinct_below}
 use Rattle.std.proofs.lemmas.Nat.Bits.{bit_at_and, bit_at_not, bit_at-lt}
 use Rattle.std.proofs.Math.Dec.{eqb}
-use Rattle.cq_regs.specs.declared.slots.Progress.{Progress}
-use Rattle.cq_regs.specs.declared.slots.Progress.TheVariants.{Rung}
 use Rattle.cq_regs.specs.declared.slots.Ringed.{Ringed}
 use Rattle.cq_regs.specs.Slots.{is_rung, progress_of, IsRing, slots_word, has_bit, newly_rung, first_slots, with_first, AreNotRung, rings, rung}
 use Rattle.cq_regs.proofs.RingLaws.{has_slot, rung-has_slot, bit_at-slots_word}

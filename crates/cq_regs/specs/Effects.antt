@@ -1,7 +1,7 @@
 -- What each register reads, what a write of it does, and what the calls of the engine change: every register that a line
 -- does not name stays (host interface annex of JESD84-B51; drivers/mmc/host/cqhci.h).
-use Rattle.std.specs.Prelude.{ℕ, ◌-◌, ◌^◌, ◌==◌, ◌&&◌, Bool, true, false, not, List, [], if◌then◌else◌}
-use Rattle.std.specs.Int.{from_bool}
+use Rattle.std.specs.Prelude.{◌≡◌, ℕ, ◌-◌, ◌^◌, ◌==◌, ◌&&◌, Bool, true, false, not, [], if◌then◌else◌}
+use Rattle.std.specs.Int.{bit_at, from_bool}
 use Rattle.std.specs.Int.RustNames.{bit_and, bit_or}
 use Rattle.cq_regs.specs.declared.coalesce.Coalescing.{Coalescing}
 use Rattle.cq_regs.specs.declared.slots.Progress.{Progress}
@@ -12,7 +12,7 @@ use Rattle.cq_regs.specs.declared.table.Access.{Access}
 use Rattle.cq_regs.specs.declared.table.Access.TheVariants.{ReadOnly, Stored, OneClears, Acts}
 use Rattle.cq_regs.specs.declared.table.Row.{Row}
 use Rattle.cq_regs.specs.State.{Registers}
-use Rattle.cq_regs.specs.Slots.{has_bit, progress_of, slots_word, sent_slots, rung, advanced, made_ready, without, without_slots}
+use Rattle.cq_regs.specs.Slots.{has_bit, is_rung, is_sent, progress_of, slots_word, sent_slots, rung, advanced, without, without_slots}
 use Rattle.cq_regs.specs.Coalesce.{ic_word, ic_written, counted, ticked, reaches, restarted}
 
 -- at reset: no register has a bit but the version and the response error mask, and no slot is rung
@@ -63,6 +63,12 @@ value_of regs ResponseErrorMask = regs.error_mask
 value_of regs TaskErrorInformation = regs.error_information
 value_of regs CommandResponseIndex = regs.response_index
 value_of regs CommandResponseArgument = regs.response_argument
+
+-- the bits of the doorbell are those of the rung slots, and those of the device pending tasks those of the sent ones
+abbrev pub ShowsSlots : Registers → Register → ℕ → Type 0
+ShowsSlots regs Doorbell word = (slot : ℕ) → bit_at word slot ≡ from_bool (is_rung (progress_of regs.ring slot))
+ShowsSlots regs DevicePendingTasks word = (slot : ℕ) → bit_at word slot ≡ from_bool (is_sent (progress_of regs.ring slot))
+ShowsSlots regs _ word = Unit {0}
 
 -- a register that keeps what is stored in it
 abbrev pub stored : Registers → Register → ℕ → Registers

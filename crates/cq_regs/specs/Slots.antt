@@ -1,7 +1,7 @@
 -- The slots of the host interface that are rung, in order of ringing, and how far the task of each has come. The words
 -- of the task doorbell and of the device pending tasks follow from them (host interface annex of JESD84-B51; CQHCI_TDBR
 -- and CQHCI_DPT of drivers/mmc/host/cqhci.h).
-use Rattle.std.specs.Prelude.{◌≡◌, ◌≢◌, ◌<◌, ℕ, zero, suc, ◌^◌, ◌==◌, ◌&&◌, Bool, true, false, not, List, [], ◌∷◌, ◌++◌, map, Option, if◌then◌else◌}
+use Rattle.std.specs.Prelude.{◌≡◌, ◌≢◌, ◌<◌, ℕ, zero, suc, ◌^◌, ◌==◌, ◌&&◌, Bool, true, false, not, List, [], ◌∷◌, ◌++◌, map, if◌then◌else◌}
 use Rattle.std.specs.Int.{bit_at}
 use Rattle.std.specs.Int.RustNames.{bit_or}
 use Rattle.std.specs.List.{All, AllPairs, filter, find, fold}
@@ -114,3 +114,7 @@ without ring slot = filter (λ r. not (r.slot == slot)) ring
 -- without the slots of a word
 abbrev pub without_slots : List Ringed → ℕ → List Ringed
 without_slots ring word = filter (λ r. not (has_bit word r.slot)) ring
+
+-- each slot comes to what is said of it and of how far it was
+abbrev pub Moves : (old new : List Ringed) → (ℕ → Progress → Progress) → Type 0
+Moves old new after = (slot : ℕ) → progress_of new slot ≡ after slot (progress_of old slot)

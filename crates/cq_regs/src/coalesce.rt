@@ -22,7 +22,7 @@ pub struct Coalescing {
 
 impl Coalescing {
     /// The register as it reads.
-    pub fn word(self) -> u32
+    pub(crate) fn word(self) -> u32
         ensures { result ≡ ic_word self }
     {
         let flags = u32::from(self.enabled) * 0x8000_0000
@@ -31,7 +31,7 @@ impl Coalescing {
     }
 
     /// What a write of the register leaves.
-    pub fn written(self, value: u32) -> Coalescing
+    pub(crate) fn written(self, value: u32) -> Coalescing
         ensures { result ≡ ic_written self value }
     {
         let threshold = bits(u64::from(value), 8, 5) as u8;
@@ -47,7 +47,7 @@ impl Coalescing {
     }
 
     /// One task more is counted.
-    pub fn counted(self) -> Coalescing
+    pub(crate) fn counted(self) -> Coalescing
         ensures { result ≡ counted self }
     {
         Coalescing {
@@ -57,7 +57,7 @@ impl Coalescing {
     }
 
     /// A tick of the timer, which runs while the counter is not 0.
-    pub fn ticked(self) -> Coalescing
+    pub(crate) fn ticked(self) -> Coalescing
         ensures { result ≡ ticked self }
     {
         if self.counter == 0 {
@@ -70,21 +70,21 @@ impl Coalescing {
     }
 
     /// Whether the counter has come to its threshold.
-    pub fn is_counter_due(self) -> bool
+    pub(crate) fn is_counter_due(self) -> bool
         ensures { result ≡ reaches self.counter self.threshold }
     {
         reaches(self.counter, self.threshold)
     }
 
     /// Whether the timer has come to its timeout.
-    pub fn is_timer_due(self) -> bool
+    pub(crate) fn is_timer_due(self) -> bool
         ensures { result ≡ reaches self.timer self.timeout }
     {
         reaches(self.timer, self.timeout)
     }
 
     /// Counter and timer begin anew.
-    pub fn restarted(self) -> Coalescing
+    pub(crate) fn restarted(self) -> Coalescing
         ensures { result ≡ restarted self }
     {
         Coalescing {

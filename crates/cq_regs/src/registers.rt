@@ -1,8 +1,9 @@
-ghost use Rattle.std.specs.Prelude.{◌≡◌, ◌==◌, ◌<◌, true, not, map, IfOk, IfSome, IsTrue, slice_get};
+ghost use Rattle.std.specs.Prelude.{◌≡◌, ◌==◌, ◌<◌, true, not, map, IfSome, IsTrue, if◌then◌else◌, slice_get};
 ghost use Rattle.std.specs.Int.{bit_at, from_bool};
 ghost use Rattle.std.specs.Int.RustNames.{bit_and, bit_or};
 ghost use Rattle.std.specs.Option.{ok_or, option_map, option_map_or};
-ghost use Rattle.cq_regs.specs.Slots.{is_rung, is_sent, made_ready, progress_of, waits, without, without_slots};
+ghost use Rattle.cq_regs.specs.declared.slots.Progress.TheVariants.{Idle};
+ghost use Rattle.cq_regs.specs.Slots.{has_bit, is_rung, made_ready, next, progress_of, readied, waits, without, Moves};
 ghost use Rattle.cq_regs.specs.Table.{row_at, rows};
 
 use crate::coalesce::Coalescing;
@@ -79,7 +80,7 @@ impl Model for Regs {
 }
 
 impl Regs {
-    ghost use Rattle.cq_regs.specs.Effects.{acted, at_reset, belled, cleared, completed, controlled, counted_in, moved_on, noticed_if, notified, raised, response_error, stored, task_cleared, ticked_in, value_of, written};
+    ghost use Rattle.cq_regs.specs.Effects.{acted, at_reset, belled, cleared, completed, controlled, counted_in, moved_on, noticed_if, notified, raised, response_error, stored, task_cleared, ticked_in, value_of, written, ShowsSlots};
 
     /// The registers at reset.
     pub fn new() -> Regs
@@ -121,7 +122,8 @@ impl Regs {
     ///
     /// `NoRegister` where the table has no register at the offset.
     pub fn read(&self, offset: u8) -> Result<u32, NoRegister>
-        ensures { result ≡ ok_or (option_map (λ row. value_of self.now row.register) (row_at offset)) NoRegister }
+        ensures answer { result ≡ ok_or (option_map (λ row. value_of self.now row.register) (row_at offset)) (record {}) }
+        ensures slots { IfSome (row_at offset) (λ row. ShowsSlots self.now row.register (value_of self.now row.register)) }
     {
         match row_at(offset) {
             Some(row) => Ok(self.value(row.register)),
@@ -135,7 +137,7 @@ impl Regs {
     ///
     /// `NoRegister` where the table has no register at the offset. Nothing has changed then.
     pub fn write(&mut self, offset: u8, value: u32) -> Result<(), NoRegister>
-        ensures answer { result ≡ ok_or (option_map (λ _. tt) (row_at offset)) NoRegister }
+        ensures answer { result ≡ ok_or (option_map (λ _. tt) (row_at offset)) (record {}) }
         ensures after { self.new ≡ option_map_or (λ row. written self.old row value) (row_at offset) self.old }
     {
         match row_at(offset) {
@@ -147,9 +149,11 @@ impl Regs {
         }
     }
 
-    /// What a register reads.
+    /// What a register reads. The bits of the doorbell are those of the rung slots, and the bits of the device pending tasks
+    /// those of the sent ones.
     pub fn value(&self, register: Register) -> u32
-        ensures { result ≡ value_of self.now register }
+        ensures value { result ≡ value_of self.now register }
+        ensures slots { ShowsSlots self.now register result }
     {
         match register {
             Register::Version => VERSION,
@@ -198,7 +202,8 @@ impl Regs {
     pub fn advance(&mut self, slot: u8)
         requires below { slot < 32 }
         requires waits { IsTrue (waits (progress_of self.old.ring slot)) }
-        ensures { self.new ≡ moved_on self.old slot }
+        ensures after { self.new ≡ moved_on self.old slot }
+        ensures slots { Moves self.old.ring self.new.ring (λ other progress. if other == slot then next progress else progress) }
     {
         if self.ring.progress(slot) == Progress::Ready {
             self.queue_status &= !slot_bit(slot);
@@ -208,7 +213,8 @@ impl Regs {
 
     /// Takes the queue status word of a poll, and makes the sent slots of the word ready.
     pub fn polled(&mut self, word: u32)
-        ensures { self.new ≡ record self.old { queue_status = word; ring = made_ready self.old.ring word } }
+        ensures after { self.new ≡ record self.old { queue_status = word; ring = made_ready self.old.ring word } }
+        ensures slots { Moves self.old.ring self.new.ring (λ other progress. if has_bit word other then readied progress else progress) }
     {
         self.queue_status = word;
         self.ring.make_ready(word);
@@ -217,7 +223,8 @@ impl Regs {
     /// Drops the task of a slot, which is then idle.
     pub fn dropped(&mut self, slot: u8)
         requires { slot < 32 }
-        ensures { self.new ≡ record self.old { ring = without self.old.ring slot } }
+        ensures after { self.new ≡ record self.old { ring = without self.old.ring slot } }
+        ensures slots { Moves self.old.ring self.new.ring (λ other progress. if other == slot then Idle else progress) }
     {
         self.ring.remove(slot);
     }
@@ -233,7 +240,8 @@ impl Regs {
     /// counter of the interrupt coalescing.
     pub fn complete(&mut self, slot: u8, int: bool)
         requires { slot < 32 }
-        ensures { self.new ≡ completed self.old slot int }
+        ensures after { self.new ≡ completed self.old slot int }
+        ensures slots { Moves self.old.ring self.new.ring (λ other progress. if other == slot then Idle else progress) }
     {
         self.ring.remove(slot);
         self.completed |= slot_bit(slot);

@@ -1,7 +1,9 @@
-ghost use Rattle.std.specs.Prelude.{◌≡◌, ◌==◌, ◌<◌, ◌^◌, true, [], IsTrue, IfSome, slice_get};
+ghost use Rattle.std.specs.Prelude.{◌≡◌, ℕ, ◌==◌, ◌<◌, ◌^◌, true, [], IsTrue, IfSome, if◌then◌else◌, slice_get};
+ghost use Rattle.std.specs.Int.{bit_at, from_bool};
 ghost use Rattle.std.specs.List.{All, find};
 ghost use Rattle.std.specs.Option.{option_map};
-ghost use Rattle.cq_regs.specs.Slots.{advanced, has_bit, is_rung, is_sent, made_ready, moved_at, next, progress_of, readied, readied_by, rung, sent_slots, slots_word, waits, with_first, without, without_slots, AreNotRung, IsRing};
+ghost use Rattle.cq_regs.specs.declared.slots.Progress.TheVariants.{Idle};
+ghost use Rattle.cq_regs.specs.Slots.{advanced, has_bit, is_rung, is_sent, made_ready, moved_at, newly_rung, next, progress_of, readied, readied_by, rung, sent_slots, slots_word, waits, with_first, without, without_slots, AreNotRung, IsRing, Moves};
 
 use arrayvec::ArrayVec;
 use std::marker::Model;
@@ -33,7 +35,7 @@ pub struct Ringed {
 
 /// The slots that are rung, in order of ringing.
 #[derive(Debug, Drop)]
-pub struct Ring {
+pub(crate) struct Ring {
     slots: ArrayVec<Ringed, 32>,
 }
 
@@ -50,15 +52,15 @@ impl Model for Ring {
 }
 
 impl Progress {
-    // Whether the engine has a next command to send for the slot.
-    pub fn is_sent(self) -> bool
+    // Whether CMD45 was answered, and the task is not complete.
+    pub(crate) fn is_sent(self) -> bool
         ensures { result ≡ is_sent self }
     {
         matches!(self, Progress::Sent | Progress::Ready | Progress::Active)
     }
 
     // What the slot comes to once its next command was answered.
-    pub fn next(self) -> Progress
+    pub(crate) fn next(self) -> Progress
         ensures { result ≡ next self }
     {
         match self {
@@ -70,7 +72,7 @@ impl Progress {
     }
 
     // Ready, where the task was sent.
-    pub fn readied(self) -> Progress
+    pub(crate) fn readied(self) -> Progress
         ensures { result ≡ readied self }
     {
         match self {
@@ -81,6 +83,16 @@ impl Progress {
 }
 
 impl Ringed {
+    // A slot that is rung, of which no command is sent.
+    fn rung(slot: u8) -> Ringed
+        ensures { result ≡ newly_rung slot }
+    {
+        Ringed {
+            slot,
+            progress: Progress::Rung,
+        }
+    }
+
     // Moved on, if it is the entry of the slot.
     fn moved_at(self, slot: u8) -> Ringed
         ensures { result ≡ moved_at slot self }
@@ -112,7 +124,7 @@ impl Ringed {
 
 impl Ring {
     /// No slot.
-    pub fn new() -> Ring
+    pub(crate) fn new() -> Ring
         ensures { result ≡ [] }
     {
         Ring {
@@ -121,7 +133,7 @@ impl Ring {
     }
 
     /// How far the task of a slot has come.
-    pub fn progress(&self, slot: u8) -> Progress
+    pub(crate) fn progress(&self, slot: u8) -> Progress
         ensures { result ≡ progress_of self.now slot }
     {
         match find_slot(self.slots.as_slice(), slot) {
@@ -131,7 +143,7 @@ impl Ring {
     }
 
     /// The slot that was rung as the k-th of those that are rung, 0 the first.
-    pub fn nth(&self, k: u8) -> Option<u8>
+    pub(crate) fn nth(&self, k: u8) -> Option<u8>
         ensures value { result ≡ option_map (λ r. r.slot) (slice_get self.now k) }
         ensures below { IfSome result (λ slot. slot < 32) }
         ensures started { IfSome result (λ slot. is_rung (progress_of self.now slot) ≡ true) }
@@ -140,21 +152,23 @@ impl Ring {
     }
 
     /// The word with a bit for each slot.
-    pub fn word(&self) -> u32
-        ensures { result ≡ slots_word self.now }
+    pub(crate) fn word(&self) -> u32
+        ensures value { result ≡ slots_word self.now }
+        ensures bits { (slot : ℕ) → bit_at result slot ≡ from_bool (is_rung (progress_of self.now slot)) }
     {
         slots_word(self.slots.as_slice())
     }
 
     /// The word with a bit for each slot that is sent.
-    pub fn sent_word(&self) -> u32
-        ensures { result ≡ slots_word (sent_slots self.now) }
+    pub(crate) fn sent_word(&self) -> u32
+        ensures value { result ≡ slots_word (sent_slots self.now) }
+        ensures bits { (slot : ℕ) → bit_at result slot ≡ from_bool (is_sent (progress_of self.now slot)) }
     {
         sent_word(self.slots.as_slice())
     }
 
     /// Rings the slots of a word that are not rung, in slot order.
-    pub fn ring(&mut self, doorbells: u32)
+    pub(crate) fn ring(&mut self, doorbells: u32)
         ensures { self.new ≡ rung self.old doorbells }
     {
         let anew = doorbells & !self.word();
@@ -162,28 +176,31 @@ impl Ring {
     }
 
     /// Moves one slot on.
-    pub fn advance(&mut self, slot: u8)
-        ensures { self.new ≡ advanced self.old slot }
+    pub(crate) fn advance(&mut self, slot: u8)
+        ensures after { self.new ≡ advanced self.old slot }
+        ensures slots { Moves self.old self.new (λ other progress. if other == slot then next progress else progress) }
     {
         advance(self.slots.as_mut_slice(), slot);
     }
 
     /// Makes the sent slots of a word ready.
-    pub fn make_ready(&mut self, word: u32)
-        ensures { self.new ≡ made_ready self.old word }
+    pub(crate) fn make_ready(&mut self, word: u32)
+        ensures after { self.new ≡ made_ready self.old word }
+        ensures slots { Moves self.old self.new (λ other progress. if has_bit word other then readied progress else progress) }
     {
         make_ready(self.slots.as_mut_slice(), word);
     }
 
     /// Takes out one slot.
-    pub fn remove(&mut self, slot: u8)
-        ensures { self.new ≡ without self.old slot }
+    pub(crate) fn remove(&mut self, slot: u8)
+        ensures after { self.new ≡ without self.old slot }
+        ensures slots { Moves self.old self.new (λ other progress. if other == slot then Idle else progress) }
     {
         self.slots.retain(|r| r.slot != slot);
     }
 
     /// Takes out the slots of a word.
-    pub fn remove_all(&mut self, word: u32)
+    pub(crate) fn remove_all(&mut self, word: u32)
         ensures { self.new ≡ without_slots self.old word }
     {
         self.slots.retain(|r| !is_set(word, r.slot));
@@ -222,10 +239,7 @@ fn ring_slots(ring: &mut ArrayVec<Ringed, 32>, anew: u32)
 {
     for slot in 0..32u8 {
         if is_set(anew, slot) {
-            ring.push(Ringed {
-                slot,
-                progress: Progress::Rung,
-            });
+            ring.push(Ringed::rung(slot));
         }
     }
 }

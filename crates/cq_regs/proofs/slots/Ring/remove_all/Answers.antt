@@ -1,10 +1,8 @@
 use Rattle.std.proofs.Common.{rules}
 use Rattle.arrayvec.proofs.ArrayVecLemmas.{filter-from_retain}
-use Rattle.std.proofs.Common.{◌≡◌, subst, sym, List, ap, ◌∙◌}
+use Rattle.std.proofs.Common.{◌≡◌, ap, ◌∙◌}
 use Rattle.std.specs.Prelude.{not}
-use Rattle.std.specs.List.{filter}
-use Rattle.cq_regs.specs.declared.slots.Ringed.{Ringed}
-use Rattle.cq_regs.specs.Slots.{has_bit, IsRing, without_slots}
+use Rattle.cq_regs.specs.Slots.{has_bit, without_slots}
 use Rattle.cq_regs.proofs.RingLaws.{IsRing-filter}
 use Rattle.cq_regs.proofs.slots.Ring.remove_all.Goals as goal
 
