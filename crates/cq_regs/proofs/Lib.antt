@@ -1,0 +1,3 @@
+pub mod RingLaws
+pub mod RungLaws
+pub mod ProgressLaws

@@ -1,0 +1,84 @@
+-- How far each slot is after a change of the list.
+use Rattle.std.proofs.Common.{◌≡◌, ℕ, Bool, true, false, List, [], ◌∷◌, map, refl, sym, ap, ◌∙◌, subst}
+use Rattle.std.specs.Prelude.{◌==◌, not, cond, Option, Some}
+use Rattle.std.specs.List.{find}
+use Rattle.std.specs.Option.{option_map_or}
+use Rattle.std.proofs.lemmas.Bool.{eqb-true}
+use Rattle.cq_regs.specs.declared.slots.Progress.{Progress}
+use Rattle.cq_regs.specs.declared.slots.Progress.TheVariants.{Idle}
+use Rattle.cq_regs.specs.declared.slots.Ringed.{Ringed}
+use Rattle.cq_regs.specs.Slots.{has_bit, next, readied, moved_at, readied_by, advanced, made_ready, without, progress_of}
+
+progress_first : (b : Bool) (r : Ringed) (rest : Option Ringed)
+    → option_map_or (λ r. r.progress) (cond b (Some r) rest) Idle ≡ cond b r.progress (option_map_or (λ r. r.progress) rest Idle)
+progress_first true r rest = refl
+progress_first false r rest = refl
+
+progress_cons : (r : Ringed) (ring : List Ringed) (slot : ℕ) → progress_of (r ∷ ring) slot ≡ cond (r.slot == slot) r.progress (progress_of ring slot)
+progress_cons r ring slot = progress_first (r.slot == slot) r (find (λ r. r.slot == slot) ring)
+
+changed_first : (after : ℕ → Progress → Progress) (b : Bool) (s slot : ℕ) (p q : Progress) → (s == slot) ≡ b
+    → cond b (after s p) (after slot q) ≡ after slot (cond b p q)
+changed_first after true s slot p q e = ap (λ n. after n p) (eqb-true s slot e)
+changed_first after false s slot p q e = refl
+
+progress_map : (f : Ringed → Ringed) (after : ℕ → Progress → Progress) (ring : List Ringed) (slot : ℕ)
+    → ((r : Ringed) → (f r).slot ≡ r.slot) → ((r : Ringed) → (f r).progress ≡ after r.slot r.progress) → Idle ≡ after slot Idle
+    → progress_of (map f ring) slot ≡ after slot (progress_of ring slot)
+progress_map f after [] slot keeps changes idle = idle
+progress_map f after (r ∷ ring) slot keeps changes idle =
+    progress_cons (f r) (map f ring) slot
+    ∙ ap (λ n. cond (n == slot) (f r).progress (progress_of (map f ring) slot)) (keeps r)
+    ∙ ap (λ p. cond (r.slot == slot) p (progress_of (map f ring) slot)) (changes r)
+    ∙ ap (λ q. cond (r.slot == slot) (after r.slot r.progress) q) (progress_map f after ring slot keeps changes idle)
+    ∙ changed_first after (r.slot == slot) r.slot slot r.progress (progress_of ring slot) refl
+    ∙ ap (after slot) (sym (progress_cons r ring slot))
+
+same_slot : (b : Bool) (r : Ringed) (p : Progress) → (cond b (record r { progress = p }) r).slot ≡ r.slot
+same_slot true r p = refl
+same_slot false r p = refl
+
+new_progress : (b : Bool) (r : Ringed) (p : Progress) → (cond b (record r { progress = p }) r).progress ≡ cond b p r.progress
+new_progress true r p = refl
+new_progress false r p = refl
+
+both_idle : (b : Bool) → Idle ≡ cond b Idle Idle
+both_idle true = refl
+both_idle false = refl
+
+pub progress_advanced : (ring : List Ringed) (slot other : ℕ)
+    → progress_of (advanced ring slot) other ≡ cond (other == slot) (next (progress_of ring other)) (progress_of ring other)
+progress_advanced ring slot other =
+    progress_map (moved_at slot) (λ other progress. cond (other == slot) (next progress) progress) ring other
+    (λ r. same_slot (r.slot == slot) r (next r.progress)) (λ r. new_progress (r.slot == slot) r (next r.progress)) (both_idle (other == slot))
+
+pub progress_made_ready : (ring : List Ringed) (word other : ℕ)
+    → progress_of (made_ready ring word) other ≡ cond (has_bit word other) (readied (progress_of ring other)) (progress_of ring other)
+progress_made_ready ring word other =
+    progress_map (readied_by word) (λ other progress. cond (has_bit word other) (readied progress) progress) ring other
+    (λ r. same_slot (has_bit word r.slot) r (readied r.progress)) (λ r. new_progress (has_bit word r.slot) r (readied r.progress)) (both_idle (has_bit word other))
+
+left_first : (out b : Bool) (r : Ringed) (ring : List Ringed) (slot other : ℕ) → (r.slot == slot) ≡ out → (r.slot == other) ≡ b
+    → progress_of (without ring slot) other ≡ cond (other == slot) Idle (progress_of ring other)
+    → progress_of (cond (not out) (r ∷ without ring slot) (without ring slot)) other
+    ≡ cond (other == slot) Idle (cond b r.progress (progress_of ring other))
+left_first true true r ring slot other e f rest =
+    let same : (other == slot) ≡ true = subst (λ n. (n == slot) ≡ true) (eqb-true r.slot other f) e in
+    rest ∙ ap (λ b. cond b Idle (progress_of ring other)) same ∙ sym (ap (λ b. cond b Idle r.progress) same)
+left_first true false r ring slot other e f rest = rest
+left_first false true r ring slot other e f rest =
+    let apart : (other == slot) ≡ false = subst (λ n. (n == slot) ≡ false) (eqb-true r.slot other f) e in
+    progress_cons r (without ring slot) other
+    ∙ ap (λ b. cond b r.progress (progress_of (without ring slot) other)) f
+    ∙ sym (ap (λ b. cond b Idle r.progress) apart)
+left_first false false r ring slot other e f rest =
+    progress_cons r (without ring slot) other
+    ∙ ap (λ b. cond b r.progress (progress_of (without ring slot) other)) f
+    ∙ rest
+
+pub progress_without : (ring : List Ringed) (slot other : ℕ)
+    → progress_of (without ring slot) other ≡ cond (other == slot) Idle (progress_of ring other)
+progress_without [] slot other = both_idle (other == slot)
+progress_without (r ∷ ring) slot other =
+    left_first (r.slot == slot) (r.slot == other) r ring slot other refl refl (progress_without ring slot other)
+    ∙ ap (λ p. cond (other == slot) Idle p) (sym (progress_cons r ring other))

@@ -1,0 +1,23 @@
+use Rattle.std.proofs.Common.{◌≡◌, ◌<◌, ◌^◌, ap, sym, subst, ◌∙◌, arith}
+use Rattle.cq_regs.specs.Slots.{slots_word, rung}
+use Rattle.cq_regs.proofs.RungLaws.{anew-apart, rung-anew, IsRing-with_first}
+use Rattle.cq_regs.proofs.slots.Ring.ring.Goals as goal
+
+pub ring_slots-requires-clause-apart : goal.ring_slots-requires-clause-apart
+ring_slots-requires-clause-apart c =
+    let e : c.word.result ≡ slots_word c.self.inside.slots.items = c.word.ensures.value ∙ ap slots_word (sym c.self.view_is) in
+    rw e (anew-apart c.self.inside.slots.items c.args.doorbells c.self.invariant (subst (λ n. n < 2 ^ 32) e c.word.type_inv))
+
+pub invariant_of-self : goal.invariant_of-self
+invariant_of-self c =
+    let e : c.word.result ≡ slots_word c.self.inside.slots.items = c.word.ensures.value ∙ ap slots_word (sym c.self.view_is) in
+    rw (c.ring_slots.ensures, e)
+    (IsRing-with_first c.self.inside.slots.items _ 32 c.self.invariant
+    (anew-apart c.self.inside.slots.items c.args.doorbells c.self.invariant (subst (λ n. n < 2 ^ 32) e c.word.type_inv)) (omega arith))
+
+pub returns : goal.returns
+returns c =
+    let e : c.word.result ≡ slots_word c.self.inside.slots.items = c.word.ensures.value ∙ ap slots_word (sym c.self.view_is) in
+    rw (c.ring_slots.ensures, e)
+    (rung-anew c.self.inside.slots.items c.args.doorbells c.self.invariant (subst (λ n. n < 2 ^ 32) e c.word.type_inv)
+    ∙ ap (λ ring. rung ring c.args.doorbells) c.self.view_is)

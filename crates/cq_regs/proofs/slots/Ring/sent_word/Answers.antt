@@ -1,0 +1,7 @@
+use Rattle.cq_regs.proofs.RingLaws.{bit_at-sent_word}
+use Rattle.cq_regs.proofs.slots.Ring.sent_word.Goals as goal
+
+pub returns-clause-bits : goal.returns-clause-bits
+returns-clause-bits c =
+    rw (c.sent_word.ensures, c.as_slice.ensures.value, ← c.self.view_is)
+    (λ slot. bit_at-sent_word c.self.inside.slots.items slot c.self.invariant)

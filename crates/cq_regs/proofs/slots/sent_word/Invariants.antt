@@ -1,0 +1,6 @@
+use Rattle.std.proofs.Common.{◌≡◌, take}
+use Rattle.cq_regs.specs.Slots.{sent_slots, slots_word}
+use Rattle.cq_regs.proofs.slots.sent_word.Given as goal
+
+abbrev pub invariant-loop-r : goal.invariant-loop-r
+invariant-loop-r l = l.word ≡ slots_word (sent_slots (take l.r-index l.slots))

@@ -1,0 +1,5 @@
+pub mod Slots
+pub mod Coalesce
+pub mod Table
+pub mod State
+pub mod Effects
