@@ -1,0 +1,4 @@
+pub mod Exact
+pub mod Ranges
+pub mod Readings
+pub mod Walked
