@@ -1,3 +1,4 @@
+pub mod ChainLaws
 pub mod Exact
 pub mod Ranges
 pub mod Readings

@@ -6,19 +6,18 @@ ghost use Rattle.cq_chain.specs.Descriptors.{AreNotEmpty, Reads, ends, next, pie
 ghost use Rattle.cq_chain.specs.Chain.{HasFault, HasPieces};
 ghost use Rattle.cq_chain.specs.Steps.{left_after, read_at};
 
-use crate::{ChainFault, Pieces};
+use crate::{ChainFault, LONGEST_CHAIN, Pieces};
 use cq_desc::{DescFault, Xfer, read_xfer};
 use cq_words::get64;
 use host_mem::HostMem;
 
-/// The most descriptors of a chain.
-pub const LONGEST_CHAIN: u32 = 512;
-
-/// The pieces of the chain at `at` for `want` bytes, with descriptors of 16 bytes where it is `wide`, else of 8.
+/// The pieces of the chain of transfer descriptors at `at`, for `want` bytes (JESD84-B51, annex B; the Linux driver
+/// writes such a chain in `cqhci_prep_tran_desc`). Descriptors are of 16 bytes where they are `wide`, else of 8.
 ///
-/// Each descriptor is judged by itself, in the order of the chain: first that it isn't one too many, then that it is in
-/// the memory, that it is valid, that its act is a known one, that its piece is in the memory, that it isn't longer
-/// than what is still wanted, and where it ends the chain, that nothing is wanted any more.
+/// One descriptor after the other is judged, and the first that is bad gives the fault. The tests of one, in their
+/// order: `LONGEST_CHAIN` descriptors came before it (`TooMany`); not all of it is in the memory (`Hole`); `NotValid`;
+/// `BadAct`; not all of its piece is in the memory (`Hole`); its piece is longer than what is still wanted (`Long`);
+/// it ends the chain and more is wanted (`Short`). No byte is at 2^64 or above.
 pub fn walk(mem: &HostMem, at: u64, want: u32, wide: bool) -> Result<Pieces, ChainFault>
     ensures pieces { (pieces : List Piece) → (result ≡ Ok pieces) ↔ HasPieces mem.now wide LONGEST_CHAIN at want pieces }
     ensures fault { (fault : ChainFault) → (result ≡ Err fault) ↔ HasFault mem.now wide LONGEST_CHAIN at want fault }

@@ -1,4 +1,4 @@
-/// Why a chain is refused.
+/// Why a chain of transfer descriptors is refused.
 #[derive(Clone, Copy, Debug, PartialEq, Eq)]
 pub enum ChainFault {
     /// A byte of a descriptor or of a piece isn't in the memory.

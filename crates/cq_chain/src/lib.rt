@@ -5,9 +5,9 @@ mod chain;
 mod fault;
 mod pieces;
 
-pub use chain::{LONGEST_CHAIN, walk};
+pub use chain::walk;
 pub use fault::ChainFault;
-pub use pieces::{Piece, Pieces};
+pub use pieces::{LONGEST_CHAIN, Piece, Pieces};
 
 #[cfg(test)]
 mod tests {

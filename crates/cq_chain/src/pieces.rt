@@ -5,6 +5,9 @@ use arrayvec::ArrayVec;
 use cq_desc::Xfer;
 use std::marker::Model;
 
+/// The most descriptors of a chain.
+pub const LONGEST_CHAIN: usize = 512;
+
 /// A piece of the data: `len` bytes of the memory at `at`, 1 to 65,536 of them.
 #[derive(Clone, Copy, Debug, Default, PartialEq, Eq)]
 pub struct Piece {
@@ -12,10 +15,10 @@ pub struct Piece {
     pub len: u32,
 }
 
-/// The pieces of a chain in their order, at most 512.
+/// The pieces of a chain in their order, at most `LONGEST_CHAIN`.
 #[derive(Debug, Drop)]
 pub struct Pieces {
-    pieces: ArrayVec<Piece, 512>,
+    pieces: ArrayVec<Piece, LONGEST_CHAIN>,
 }
 
 impl Model for Pieces {
@@ -37,29 +40,32 @@ impl Pieces {
         }
     }
 
+    /// How many pieces there are.
     pub fn len(&self) -> usize
         ensures value { result ≡ length self.now }
-        ensures most { result ≤ 512 }
+        ensures most { result ≤ LONGEST_CHAIN }
     {
         self.pieces.len()
     }
 
+    /// Whether there are none.
     pub fn is_empty(&self) -> bool
         ensures { result ≡ (length self.now == 0) }
     {
         self.pieces.is_empty()
     }
 
+    /// The pieces in their order.
     pub fn as_slice(&self) -> &[Piece]
         ensures value { result.now ≡ self.now }
-        ensures most { length result.now ≤ 512 }
+        ensures most { length result.now ≤ LONGEST_CHAIN }
     {
         self.pieces.as_slice()
     }
 
     /// Puts the piece of a transfer behind the others; nothing for a link or a nop.
     pub(crate) fn add(&mut self, desc: Xfer)
-        requires { length self.old < 512 }
+        requires { length self.old < LONGEST_CHAIN }
         ensures { self.new ≡ self.old ++ pieces_of (desc ∷ []) }
     {
         if let Xfer::Piece { len, at, .. } = desc {
