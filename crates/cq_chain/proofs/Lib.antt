@@ -1,0 +1,5 @@
+pub mod ChainLaws
+pub mod Exact
+pub mod Ranges
+pub mod Readings
+pub mod Walked
