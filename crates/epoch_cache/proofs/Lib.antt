@@ -1,0 +1,2 @@
+pub mod CacheSteps
+pub mod TableSteps

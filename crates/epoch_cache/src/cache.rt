@@ -1,0 +1,192 @@
+ghost use Rattle.std.specs.Prelude.{◌≡◌, ◌↔◌, ◌+◌, ◌-◌, ◌<◌, ◌≤◌, ◌==◌, false, true, not, [], length, drop, filter, find, IfOk, IsErr, IsSome, IsNone, IfSome, OnOk, OnErr, slice_get, nat_lt};
+ghost use Rattle.std.specs.List.{list_any};
+ghost use Rattle.std.specs.Option.{option_copied};
+ghost use Rattle.epoch_cache.specs.Cache.{IsCache, IsPlace, is_of, lines_with, newest_of, next_epoch, renewed};
+
+use crate::Line;
+use crate::table::LineTable;
+use std::alloc::Global;
+use std::marker::Model;
+use storage_model::{Block, NoMemory, Put};
+
+/// No line is free, and the sector has none in the last epoch.
+#[derive(Clone, Copy, Debug, PartialEq, Eq)]
+pub struct Full;
+
+/// The lines of a cache, in order of epoch and then of coming to be, at most one for each sector and epoch. All memory is
+/// taken at the start.
+#[derive(Debug, Drop)]
+pub struct EpochCache {
+    table: LineTable,
+    last: u32,
+}
+
+impl Model for EpochCache {
+    ghost use Rattle.epoch_cache.specs.Cache.{Cache, IsCache};
+
+    ghost Value = { Cache };
+
+    ghost view = { λ c. record { lines = c.table.lines; last = c.last; room = c.table.room } };
+
+    ghost invariant = { λ c. IsCache (record { lines = c.table.lines; last = c.last; room = c.table.room }) };
+}
+
+impl EpochCache {
+    /// A cache without lines, into which so many fit. The only error is want of memory.
+    pub fn start(alloc: Global, lines: u16) -> Result<EpochCache, NoMemory>
+        ensures empty { IfOk result (λ cache. cache ≡ record { lines = []; last = 0; room = lines }) }
+        ensures is_cache { IfOk result IsCache }
+    {
+        let table = LineTable::start(alloc, lines)?;
+        Ok(EpochCache { table, last: 0 })
+    }
+
+    /// Takes all lines out and begins with epoch 0.
+    pub fn clear(&mut self)
+        ensures cleared { self.new ≡ record self.old { lines = []; last = 0 } }
+        ensures is_cache { IsCache self.new }
+    {
+        self.table.clear();
+        self.last = 0;
+    }
+
+    /// Gives the sector's line in the last epoch a new value at its place, or adds one. A line is whole once a reliable put
+    /// went into it. `Full` comes exactly where no line is free and the sector has none in the last epoch.
+    pub fn put(&mut self, put: &Put) -> Result<(), Full>
+        ensures full { IsErr result ↔ ((self.old.room ≤ length self.old.lines) × (list_any (is_of self.old.last put.now.sector) self.old.lines ≡ false)) }
+        ensures ok { OnOk result (self.new ≡ record self.old { lines = lines_with self.old.last put.now self.old.lines }) }
+        ensures err { OnErr result (self.new ≡ self.old) }
+        ensures is_cache { IsCache self.new }
+    {
+        if let Some(k) = self.place_of(put.sector) {
+            let line = renew(self.table.at(k), put);
+            self.table.set(k, line);
+            return Ok(());
+        }
+        if self.table.len() == self.table.room() {
+            return Err(Full);
+        }
+        self.table.push(Line {
+            sector: put.sector,
+            value: put.value,
+            whole: put.reliable,
+            epoch: self.last,
+        });
+        Ok(())
+    }
+
+    /// Begins the next epoch. After epoch 4,294,967,295 there is none, and nothing changes.
+    pub fn bar(&mut self)
+        ensures last { self.new ≡ record self.old { last = next_epoch self.old.last } }
+        ensures is_cache { IsCache self.new }
+    {
+        self.last = self.last.saturating_add(1);
+    }
+
+    /// The last epoch.
+    pub fn last(&self) -> u32
+        ensures { result ≡ self.now.last }
+    {
+        self.last
+    }
+
+    /// The value of the last line of the sector.
+    pub fn newest(&self, sector: u32) -> Option<&Block>
+        ensures { option_copied result ≡ newest_of sector self.now.lines }
+    {
+        for k in (0..self.table.len()).rev() {
+            let line = self.table.at(k);
+            if line.sector == sector {
+                return Some(&line.value);
+            }
+        }
+        None
+    }
+
+    /// The first line of all.
+    pub fn oldest_line(&self) -> Option<Line>
+        ensures { result ≡ slice_get self.now.lines 0 }
+    {
+        self.oldest_at(0)
+    }
+
+    /// Line `k` in order, 0 the oldest. None comes exactly where `k` or fewer lines are held.
+    pub fn oldest_at(&self, k: u16) -> Option<Line>
+        ensures line { result ≡ slice_get self.now.lines k }
+        ensures none { IsNone result ↔ (length self.now.lines ≤ k) }
+    {
+        if k < self.table.len() {
+            Some(*self.table.at(k))
+        } else {
+            None
+        }
+    }
+
+    /// The sector's line in the last epoch.
+    pub fn line_at(&self, sector: u32) -> Option<Line>
+        ensures line { result ≡ find (is_of self.now.last sector) self.now.lines }
+        ensures some { IsSome result ↔ (list_any (is_of self.now.last sector) self.now.lines ≡ true) }
+    {
+        let k = self.place_of(sector)?;
+        Some(*self.table.at(k))
+    }
+
+    /// Whether the oldest line is of an epoch before the last.
+    pub fn older(&self) -> bool
+        ensures { result ≡ list_any (λ line. nat_lt line.epoch self.now.last) self.now.lines }
+    {
+        self.table.len() > 0 && self.table.at(0).epoch < self.last
+    }
+
+    /// Takes the oldest line out.
+    pub fn drop_line(&mut self)
+        requires { 0 < length self.old.lines }
+        ensures dropped { self.new ≡ record self.old { lines = drop 1 self.old.lines } }
+        ensures is_cache { IsCache self.new }
+    {
+        self.table.remove(0);
+    }
+
+    /// Takes the sector's line in the last epoch out.
+    pub fn drop_at(&mut self, sector: u32)
+        requires { list_any (is_of self.old.last sector) self.old.lines ≡ true }
+        ensures dropped { self.new ≡ record self.old { lines = filter (λ line. not (is_of self.old.last sector line)) self.old.lines } }
+        ensures is_cache { IsCache self.new }
+    {
+        if let Some(k) = self.place_of(sector) {
+            self.table.remove(k);
+        }
+    }
+
+    /// How many lines are free.
+    pub fn free_lines(&self) -> u16
+        ensures { result ≡ self.now.room - length self.now.lines }
+    {
+        self.table.room() - self.table.len()
+    }
+
+    // Where in order the sector's line in the last epoch is.
+    fn place_of(&self, sector: u32) -> Option<u16>
+        ensures some { IfSome result (IsPlace (is_of self.now.last sector) self.now.lines) }
+        ensures none { IsNone result → list_any (is_of self.now.last sector) self.now.lines ≡ false }
+    {
+        for k in (0..self.table.len()).rev() {
+            let line = self.table.at(k);
+            if line.epoch == self.last && line.sector == sector {
+                return Some(k);
+            }
+        }
+        None
+    }
+}
+
+// The line with a put's value.
+fn renew(line: &Line, put: &Put) -> Line
+    ensures { result ≡ renewed put.now line.now }
+{
+    Line {
+        value: put.value,
+        whole: line.whole || put.reliable,
+        ..*line
+    }
+}

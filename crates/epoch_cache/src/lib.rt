@@ -1,0 +1,13 @@
+//! A cache of sectors on their way to flash, whose lines are parted into epochs by barriers (JESD84-B51, the cache and its
+//! barrier).
+#![tactic(auto)]
+
+mod cache;
+mod line;
+mod table;
+
+pub use cache::{EpochCache, Full};
+pub use line::Line;
+
+#[cfg(test)]
+mod tests;
