@@ -1,0 +1,10 @@
+pub mod Slots
+pub mod Jobs
+pub mod Commands
+pub mod Host
+pub mod Cuts
+pub mod Phases
+pub mod Lines
+pub mod Effects
+pub mod Steps
+pub mod Sound

@@ -1,0 +1,10 @@
+pub mod Places
+pub mod PhaseFacts
+pub mod Puts
+pub mod Ranges
+pub mod Withins
+pub mod LineFacts
+pub mod Silents
+pub mod Sounds
+pub mod Accepts
+pub mod Folds

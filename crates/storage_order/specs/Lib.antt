@@ -1,0 +1,5 @@
+pub mod Within
+pub mod Order
+pub mod Accept
+pub mod Silent
+pub mod Start
