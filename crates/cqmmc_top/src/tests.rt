@@ -135,6 +135,7 @@ fn room(alloc: Global) -> Result<MemSink, NoMemory> {
     MemSink::with_room(alloc, 4096, Vec::new(alloc))
 }
 
+// A row has the words, the request and the fault text, and the status and the text that come of them.
 #[test]
 fn commands_answer(rt: HostRuntime) -> Result<(), Fail> {
     let table = [
@@ -333,7 +334,8 @@ fn count_written(pages: &BlockList) -> usize {
         .count()
 }
 
-// A call of the array that fails or is cut ends the run, with the blocks that were moved before.
+// A call of the array that fails or is cut ends the command. A row has the words, the fault, and what comes of it: the
+// status, the number of pages that are written whole, and the text.
 #[test]
 fn array_fails(rt: HostRuntime) -> Result<(), Fail> {
     let alloc = rt.alloc();
