@@ -14,3 +14,6 @@ mod serve;
 mod texts;
 
 pub use command::{new_pages, run_command};
+
+#[cfg(test)]
+mod tests;
