@@ -1,11 +1,11 @@
 -- Numbers and bytes are words.
-use Rattle.std.proofs.Common.{◌≡◌, ℕ, zero, suc, ◌+◌, ◌/◌, ◌%◌, ◌^◌, ◌<◌, List, [], ◌∷◌, ◌++◌, decimal, refl, arith}
-use Rattle.std.specs.Prelude.{All, slice_index}
+use Rattle.std.proofs.Common.{ℕ, zero, suc, ◌+◌, ◌/◌, ◌%◌, ◌^◌, ◌<◌, List, [], ◌∷◌, decimal, refl, arith}
+use Rattle.std.specs.Prelude.{slice_index}
 use Rattle.std.proofs.lemmas.Fmt.{decimal_by_steps}
 use Rattle.std.proofs.lemmas.List.Elements.{All-nil, All-cons, All-append, All-get_or}
 use Rattle.hex.specs.Hex.{IsBytes, encode_lower, encode_with, lower_digits}
 use Rattle.text_words.specs.Words.{hex_byte}
-use Rattle.text_words.proofs.Lines.{IsFree, IsWord, word_from_test}
+use Rattle.text_words.proofs.Lines.{IsWord, word_from_test}
 
 pub decimal_word : (n : ℕ) → n < 2 ^ 32 → IsWord (decimal n)
 decimal_word n fits =

@@ -1,5 +1,6 @@
 // Lines and their words.
 ghost use Rattle.std.specs.Prelude.{◌≡◌, ◌≢◌, ◌++◌, ◌∷◌, [], All, MatchOption};
+ghost use Rattle.text_words.specs.Reads.{Reads};
 ghost use Rattle.text_words.specs.Words.{words_of};
 
 use memchr::memchr;
@@ -54,6 +55,16 @@ impl<'a> Words<'a> {
                 self.rest = None;
                 Some(rest)
             }
+        }
+    }
+
+    /// Whether no word is left.
+    pub fn end(&self) -> Option<()>
+        ensures { Reads result (λ _. self.now ≡ []) }
+    {
+        match self.rest {
+            Some(_) => None,
+            None => Some(()),
         }
     }
 }
