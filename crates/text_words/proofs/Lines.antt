@@ -73,3 +73,8 @@ words_some text none =
     let empty : text ≡ [] = sym (join_with_byte-slice_split 32 text) ∙ ap spaced none in
     let both : [] ∷ [] ≡ [] = ap words_of (sym empty) ∙ none in
     cc
+
+-- a word in front of others
+pub spaced-more : (word : List ℕ) (words : List (List ℕ)) → words ≢ [] → spaced (word ∷ words) ≡ word ++ 32 ∷ spaced words
+spaced-more word [] some = absurd (some refl)
+spaced-more word (next ∷ words) some = refl

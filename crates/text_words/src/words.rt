@@ -1,6 +1,5 @@
 // Lines and their words.
 ghost use Rattle.std.specs.Prelude.{◌≡◌, ◌≢◌, ◌++◌, ◌∷◌, [], All, MatchOption};
-ghost use Rattle.text_words.specs.Reads.{Reads};
 ghost use Rattle.text_words.specs.Words.{words_of};
 
 use memchr::memchr;
@@ -60,7 +59,7 @@ impl<'a> Words<'a> {
 
     /// Whether no word is left.
     pub fn end(&self) -> Option<()>
-        ensures { Reads result (λ _. self.now ≡ []) }
+        ensures { MatchOption result (self.now ≢ []) (λ _. self.now ≡ []) }
     {
         match self.rest {
             Some(_) => None,

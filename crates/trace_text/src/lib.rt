@@ -1,6 +1,7 @@
 //! The lines of a trace.
 #![tactic(auto)]
 
+mod fields;
 mod line;
 mod write;
 
