@@ -1,5 +1,5 @@
 -- Numbers and bytes are words.
-use Rattle.std.proofs.Common.{ℕ, zero, suc, ◌+◌, ◌/◌, ◌%◌, ◌^◌, ◌<◌, List, [], ◌∷◌, decimal, refl, arith}
+use Rattle.std.proofs.Common.{ℕ, zero, suc, ◌+◌, ◌/◌, ◌%◌, ◌^◌, ◌<◌, List, [], ◌∷◌, ◌++◌, length, decimal, refl, arith}
 use Rattle.std.specs.Prelude.{slice_index}
 use Rattle.std.proofs.lemmas.Fmt.{decimal_by_steps}
 use Rattle.std.proofs.lemmas.List.Elements.{All-nil, All-cons, All-append, All-get_or}
@@ -32,3 +32,13 @@ one_byte byte fits (suc k) = omega arith
 
 pub byte_word : (byte : ℕ) → byte < 256 → IsWord (hex_byte byte)
 byte_word byte fits = digits_word (byte ∷ []) (one_byte byte fits)
+
+front_low : (digits more : List ℕ) → (0 < length digits) × (slice_index digits 0 < 58) → (0 < length (digits ++ more)) × (slice_index (digits ++ more) 0 < 58)
+front_low [] more low = absurd (omega (arith, low.0))
+front_low (d ∷ digits) more low = (omega arith, low.1)
+
+-- a number begins with a digit
+pub decimal_low : (n : ℕ) → n < 2 ^ 32 → slice_index (decimal n) 0 < 58
+decimal_low n fits =
+    (decimal_by_steps (λ n digits. (0 < length digits) × (slice_index digits 0 < 58)) (λ n small. (omega arith, omega arith))
+    (λ n digits big front. front_low digits ((48 + n % 10) ∷ []) front) n (omega arith)).1

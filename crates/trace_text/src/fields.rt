@@ -1,9 +1,8 @@
 // What stands in a line after the word that names it.
-ghost use Rattle.std.specs.Prelude.{◌≡◌, ◌∷◌, [], ◌^◌, ◌<◌, IfSome, codes, decimal, false};
-ghost use Rattle.hex.specs.Hex.{encode_lower};
+ghost use Rattle.std.specs.Prelude.{◌≡◌, ◌≢◌, ◌∷◌, [], ◌^◌, ◌<◌, IfSome, IsTrue, ◌↔◌, codes, decimal};
 ghost use Rattle.text_words.specs.Reads.{Reads};
 ghost use Rattle.text_words.specs.Words.{hex_byte, hex_word};
-ghost use Rattle.trace_text.specs.Trace.{IsBlock, IsKind, data_words, end_text, id_text, is_one_byte, kept_words, kind_words, letter_text, lines_text, why_text};
+ghost use Rattle.trace_text.specs.Trace.{IsBlock, IsKind, data_words, end_text, id_text, kept_words, kind_words, letter_text, lines_text, why_text};
 
 use crate::line::one_byte;
 use storage_model::{Block, BusKind, End, Letter, Why};
@@ -140,15 +139,40 @@ fn kind(mut words: Words) -> Option<(BusKind, Option<u32>)>
     ensures { Reads result (λ f. IsKind f.0 × IfSome f.1 (λ n. n < 2 ^ 32) × (words.entry ≡ kind_words f.0 f.1)) }
 {
     match words.next()? {
-        b"lost" => Some((BusKind::Lost, last_id(words)?)),
-        b"noresp" => Some((BusKind::NoResp, last_id(words)?)),
-        b"late" => Some((BusKind::Late, last_id(words)?)),
-        b"data" => {
-            let (block, id) = block_and_id(words)?;
-            Some((BusKind::Bad(block), id))
-        }
+        b"lost" => lost(words),
+        b"noresp" => no_response(words),
+        b"data" => bad_block(words),
+        b"late" => late(words),
         _ => None,
     }
+}
+
+fn lost(words: Words) -> Option<(BusKind, Option<u32>)>
+    ensures { Reads result (λ f. IsKind f.0 × IfSome f.1 (λ n. n < 2 ^ 32) × (codes "lost" ∷ words.entry ≡ kind_words f.0 f.1)) }
+{
+    let id = last_id(words)?;
+    Some((BusKind::Lost, id))
+}
+
+fn no_response(words: Words) -> Option<(BusKind, Option<u32>)>
+    ensures { Reads result (λ f. IsKind f.0 × IfSome f.1 (λ n. n < 2 ^ 32) × (codes "noresp" ∷ words.entry ≡ kind_words f.0 f.1)) }
+{
+    let id = last_id(words)?;
+    Some((BusKind::NoResp, id))
+}
+
+fn late(words: Words) -> Option<(BusKind, Option<u32>)>
+    ensures { Reads result (λ f. IsKind f.0 × IfSome f.1 (λ n. n < 2 ^ 32) × (codes "late" ∷ words.entry ≡ kind_words f.0 f.1)) }
+{
+    let id = last_id(words)?;
+    Some((BusKind::Late, id))
+}
+
+fn bad_block(words: Words) -> Option<(BusKind, Option<u32>)>
+    ensures { Reads result (λ f. IsKind f.0 × IfSome f.1 (λ n. n < 2 ^ 32) × (codes "data" ∷ words.entry ≡ kind_words f.0 f.1)) }
+{
+    let (block, id) = block_and_id(words)?;
+    Some((BusKind::Bad(block), id))
 }
 
 fn block_and_id(mut words: Words) -> Option<(u16, Option<u32>)>
@@ -174,6 +198,16 @@ fn why(word: &[u8]) -> Option<Why>
         b"bus" => Some(Why::Bus),
         b"flash" => Some(Why::Flash),
         _ => None,
+    }
+}
+
+/// Whether `range` is left, and no more.
+pub fn is_range(mut words: Words) -> bool
+    ensures { IsTrue result ↔ (words.entry ≡ codes "range" ∷ []) }
+{
+    match words.next() {
+        Some(b"range") => words.end().is_some(),
+        _ => false,
     }
 }
 
@@ -223,25 +257,39 @@ pub fn number_and_data(mut words: Words) -> Option<(u32, Block)>
 {
     let number = read_decimal(words.next()?)?;
     let first = words.next()?;
-    let value = match first {
-        b"fill" => filled(words)?,
-        _ => digits(first, words)?,
-    };
+    let value = data(first, words)?;
     Some((number, value))
 }
 
-/// The byte that fills a sector.
-pub fn filled(mut words: Words) -> Option<Block>
+/// A sector's bytes, from their first word on.
+pub fn data(first: &[u8], words: Words) -> Option<Block>
+    ensures { Reads result (λ value. IsBlock value × (first.now ∷ words.entry ≡ data_words value)) }
+{
+    match first {
+        b"fill" => filled(words),
+        _ => digits(first, words),
+    }
+}
+
+fn filled(words: Words) -> Option<Block>
     ensures { Reads result (λ value. IsBlock value × (codes "fill" ∷ words.entry ≡ data_words value)) }
 {
-    let byte = read_hex_byte(words.next()?)?;
-    words.end()?;
+    let byte = last_byte(words)?;
     Some(Block([byte; 512]))
 }
 
-/// A sector of all its digits, where not all bytes are equal.
-pub fn digits(word: &[u8], words: Words) -> Option<Block>
-    ensures { Reads result (λ value. IsBlock value × (is_one_byte value.0 ≡ false) × (words.entry ≡ []) × (word.now ≡ encode_lower value.0)) }
+fn last_byte(mut words: Words) -> Option<u8>
+    ensures { Reads result (λ byte. (byte < 2 ^ 8) × (words.entry ≡ hex_byte byte ∷ [])) }
+{
+    let byte = read_hex_byte(words.next()?)?;
+    words.end()?;
+    Some(byte)
+}
+
+// All digits of a sector, where not all its bytes are equal.
+fn digits(word: &[u8], words: Words) -> Option<Block>
+    requires { word.now ≢ codes "fill" }
+    ensures { Reads result (λ value. IsBlock value × (word.now ∷ words.entry ≡ data_words value)) }
 {
     words.end()?;
     let value = Block(read_hex_bytes(word)?);

@@ -2,6 +2,8 @@
 #![tactic(auto)]
 
 mod fields;
+mod item;
+mod keyword;
 mod line;
 mod write;
 
