@@ -78,3 +78,7 @@ words_some text none =
 pub spaced-more : (word : List ℕ) (words : List (List ℕ)) → words ≢ [] → spaced (word ∷ words) ≡ word ++ 32 ∷ spaced words
 spaced-more word [] some = absurd (some refl)
 spaced-more word (next ∷ words) some = refl
+
+pub words_of-words : (words : List (List ℕ)) → words ≢ [] → All (IsFree 32) words → words_of (spaced words) ≡ words
+words_of-words [] some free = absurd (some refl)
+words_of-words (word ∷ words) some free = words_of-spaced word words free

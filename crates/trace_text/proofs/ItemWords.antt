@@ -38,7 +38,7 @@ pub data_digits : (value : Block) → is_one_byte value.0 ≡ false → data_wor
 unfolding data_words
 data_digits value other = rw other refl
 
-either : (b : Bool) → (b ≡ true) ⊎ (b ≡ false)
+pub either : (b : Bool) → (b ≡ true) ⊎ (b ≡ false)
 either true = inl refl
 either false = inr refl
 

@@ -5,6 +5,8 @@ mod fields;
 mod item;
 mod keyword;
 mod line;
+mod read;
 mod write;
 
+pub use read::read_items;
 pub use write::put_item;
