@@ -33,12 +33,21 @@ one_byte byte fits (suc k) = omega arith
 pub byte_word : (byte : ℕ) → byte < 256 → IsWord (hex_byte byte)
 byte_word byte fits = digits_word (byte ∷ []) (one_byte byte fits)
 
-front_low : (digits more : List ℕ) → (0 < length digits) × (slice_index digits 0 < 58) → (0 < length (digits ++ more)) × (slice_index (digits ++ more) 0 < 58)
-front_low [] more low = absurd (omega (arith, low.0))
-front_low (d ∷ digits) more low = (omega arith, low.1)
+abbrev BeginsWithDigit : List ℕ → Type 0
+BeginsWithDigit digits = (0 < length digits) × (47 < slice_index digits 0) × (slice_index digits 0 < 58)
+
+front_digit : (digits more : List ℕ) → BeginsWithDigit digits → BeginsWithDigit (digits ++ more)
+front_digit [] more digit = absurd (omega (arith, digit.0))
+front_digit (d ∷ digits) more digit = (omega arith, digit.1, digit.2)
+
+decimal_digits : (n : ℕ) → n < 2 ^ 32 → BeginsWithDigit (decimal n)
+decimal_digits n fits =
+    decimal_by_steps (λ n digits. BeginsWithDigit digits) (λ n small. (omega arith, omega arith, omega arith))
+    (λ n digits big front. front_digit digits ((48 + n % 10) ∷ []) front) n (omega arith)
 
 -- a number begins with a digit
 pub decimal_low : (n : ℕ) → n < 2 ^ 32 → slice_index (decimal n) 0 < 58
-decimal_low n fits =
-    (decimal_by_steps (λ n digits. (0 < length digits) × (slice_index digits 0 < 58)) (λ n small. (omega arith, omega arith))
-    (λ n digits big front. front_low digits ((48 + n % 10) ∷ []) front) n (omega arith)).1
+decimal_low n fits = (decimal_digits n fits).2
+
+pub decimal_high : (n : ℕ) → n < 2 ^ 32 → 47 < slice_index (decimal n) 0
+decimal_high n fits = (decimal_digits n fits).1

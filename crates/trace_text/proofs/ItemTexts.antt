@@ -3,6 +3,7 @@ use Rattle.std.proofs.Common.{◌≡◌, ◌≢◌, ◌⊎◌, inl, inr, ℕ, �
 use Rattle.std.specs.Prelude.{All, IfSome, slice_index}
 use Rattle.std.specs.Int.{w32, to_be_bytes}
 use Rattle.std.proofs.lemmas.List.Elements.{All-nil, All-cons}
+use Rattle.std.proofs.lemmas.List.{length-append}
 use Rattle.std.proofs.lemmas.List.Splits.{join_with_byte-slice_split}
 use Rattle.hex.specs.Hex.{IsBytes, encode_lower}
 use Rattle.storage_model.specs.declared.block.Block.{Block}
@@ -67,7 +68,7 @@ data_plain value block =
       | inr other ↦ rw (data_digits value other) (All-cons IsWord (encode_lower value.0) ([]) (digits_word value.0 block.bytes) (All-nil IsWord))
     ]
 
-item_words-plain : (item : Item) → IsItem item → All IsWord (item_words item)
+pub item_words-plain : (item : Item) → IsItem item → All IsWord (item_words item)
 item_words-plain (Card sectors depth lines) valid = All-cons IsWord (codes "card") (decimal sectors ∷ decimal depth ∷ lines_text lines ∷ []) (word_from_test (codes "card") refl) (All-cons IsWord (decimal sectors) (decimal depth ∷ lines_text lines ∷ []) (decimal_word sectors (valid.0)) (All-cons IsWord (decimal depth) (lines_text lines ∷ []) (decimal_word depth (omega (arith, valid.1))) (All-cons IsWord (lines_text lines) ([]) (lines_word lines valid.2) (All-nil IsWord))))
 item_words-plain (Issue id tag) valid = All-cons IsWord (codes "issue") (decimal id ∷ decimal tag ∷ []) (word_from_test (codes "issue") refl) (All-cons IsWord (decimal id) (decimal tag ∷ []) (decimal_word id (valid.0)) (All-cons IsWord (decimal tag) ([]) (decimal_word tag (omega (arith, valid.1))) (All-nil IsWord)))
 item_words-plain (Params n id) valid = All-cons IsWord (codes "params") (decimal n ∷ decimal id ∷ []) (word_from_test (codes "params") refl) (All-cons IsWord (decimal n) (decimal id ∷ []) (decimal_word n (valid.0)) (All-cons IsWord (decimal id) ([]) (decimal_word id (valid.1)) (All-nil IsWord)))
@@ -118,10 +119,10 @@ item_words-some (Turn letter) none = cc
 item_words-some (Off end) none = cc
 
 -- the words between the spaces of an item's line are its words
-words_of-item : (item : Item) → IsItem item → words_of (spaced (item_words item)) ≡ item_words item
+pub words_of-item : (item : Item) → IsItem item → words_of (spaced (item_words item)) ≡ item_words item
 words_of-item item valid = words_of-words (item_words item) (item_words-some item) (free_words (item_words item) (item_words-plain item valid))
 
-words_from_line : (text : List ℕ) (item : Item) → IsItem item → text ≡ spaced (item_words item) → words_of text ≡ item_words item
+pub words_from_line : (text : List ℕ) (item : Item) → IsItem item → text ≡ spaced (item_words item) → words_of text ≡ item_words item
 words_from_line text item valid is = ap words_of is ∙ words_of-item item valid
 
 line_from_words : (text : List ℕ) (item : Item) → words_of text ≡ item_words item → text ≡ spaced (item_words item)
@@ -153,3 +154,8 @@ pub no_item : (item : Item) (text after : List ℕ) → IsFree 10 text → text 
 no_item item text after free is =
     let P : List ℕ → Type 0 = λ t. IsFree 10 t in
     not_free 10 (spaced (item_words item)) after (subst P (is ∙ item_text-line item after) free)
+
+-- an item's text isn't empty
+pub item_text-long : (item : Item) → 0 < length (item_text item)
+unfolding item_text
+item_text-long item = omega (arith, length-append {A = ℕ})

@@ -50,7 +50,7 @@ data_words-some value none =
     ]
 
 -- the word that names an item
-abbrev name_of : Item → Option Keyword
+abbrev pub name_of : Item → Option Keyword
 name_of (Card sectors depth lines) = Some CardWord
 name_of (Issue id tag) = Some IssueWord
 name_of (Params n id) = Some ParamsWord
@@ -70,7 +70,7 @@ name_of (Off end) = Some OffWord
 name_of _ = None
 
 -- the outcome that an item answers
-abbrev answer_of : Item → Option Outcome
+abbrev pub answer_of : Item → Option Outcome
 answer_of (Done id) = Some DoneOutcome
 answer_of (Read id) = Some ReadOutcome
 answer_of (Status id word) = Some StatusOutcome
@@ -137,10 +137,10 @@ outcome_of-text RefusedOutcome = refl
 outcome_of-text LostOutcome = refl
 
 -- no number, and not the first word of a sector's bytes
-record IsName (first : List ℕ) : Type 0 where
-  number : (n : ℕ) → n < 2 ^ 32 → first ≢ decimal n
-  fill : first ≢ codes "fill"
-  digits : length first < 1024
+pub record IsName (first : List ℕ) : Type 0 where
+  pub number : (n : ℕ) → n < 2 ^ 32 → first ≢ decimal n
+  pub fill : first ≢ codes "fill"
+  pub digits : length first < 1024
 
 high_name : (keyword : Keyword) → (57 < slice_index (keyword_text keyword) 0) × (length (keyword_text keyword) < 1024)
 high_name CardWord = (omega arith, omega arith)
@@ -160,7 +160,7 @@ high_name LeftWord = (omega arith, omega arith)
 high_name TurnWord = (omega arith, omega arith)
 high_name OffWord = (omega arith, omega arith)
 
-name : (keyword : Keyword) → IsName (keyword_text keyword)
+pub name : (keyword : Keyword) → IsName (keyword_text keyword)
 name keyword = record {
   number = λ n fits e. omega (arith, decimal_low n fits, high_name keyword, ap (λ w. slice_index w 0) e);
   fill = λ e.
@@ -176,17 +176,17 @@ not_digits : (value : Block) (first : List ℕ) → IsBlock value → length fir
 not_digits value first block short e = omega (arith, ap length e, length-encode_with lower_digits value.0, block.long)
 
 -- a sector's words begin with `fill` or with all digits
-no_data : (value : Block) (first : List ℕ) (words : List (List ℕ)) → IsBlock value → first ≢ codes "fill" → length first < 1024 → first ∷ words ≡ data_words value → ⊥
+pub no_data : (value : Block) (first : List ℕ) (words : List (List ℕ)) → IsBlock value → first ≢ codes "fill" → length first < 1024 → first ∷ words ≡ data_words value → ⊥
 no_data value first words block other short is =
     elim (either (is_one_byte value.0)) [
       | inl same ↦ (let shape = data_fill value same in other (cc))
       | inr more ↦ (let shape = data_digits value more in not_digits value first block short (cc))
     ]
 
-decimal_short : (n : ℕ) → n < 2 ^ 32 → length (decimal n) < 1024
+pub decimal_short : (n : ℕ) → n < 2 ^ 32 → length (decimal n) < 1024
 decimal_short n fits = omega (arith, length-decimal-le 10 n (omega arith) (omega arith) (omega arith))
 
-decimal_not_fill : (n : ℕ) → n < 2 ^ 32 → decimal n ≢ codes "fill"
+pub decimal_not_fill : (n : ℕ) → n < 2 ^ 32 → decimal n ≢ codes "fill"
 decimal_not_fill n fits e = omega (arith, decimal_low n fits, ap (λ w. slice_index w 0) e)
 
 named_text : (keyword other : Keyword) → keyword_text keyword ≡ keyword_text other → Some other ≡ Some keyword
@@ -196,7 +196,7 @@ outcome_same : (outcome other : Outcome) → outcome_text outcome ≡ outcome_te
 outcome_same outcome other e = sym (outcome_of-text other) ∙ sym (ap (λ (text : List ℕ). outcome_of text) e) ∙ outcome_of-text outcome
 
 -- a line that begins with a name is of the items with that name
-named : (keyword : Keyword) (words : List (List ℕ)) (item : Item) → IsItem item → keyword_text keyword ∷ words ≡ item_words item → name_of item ≡ Some keyword
+pub named : (keyword : Keyword) (words : List (List ℕ)) (item : Item) → IsItem item → keyword_text keyword ∷ words ≡ item_words item → name_of item ≡ Some keyword
 named keyword words (Card sectors depth lines) valid is = named_text keyword CardWord (cc)
 named keyword words (Issue id tag) valid is = named_text keyword IssueWord (cc)
 named keyword words (Params n id) valid is = named_text keyword ParamsWord (cc)
@@ -254,7 +254,7 @@ answered number words (Turn letter) fits valid is = absurd ((name TurnWord).numb
 answered number words (Off end) fits valid is = absurd ((name OffWord).number number fits (cc))
 
 -- the item of a line with a number and an outcome
-answers : (number : ℕ) (outcome : Outcome) (words : List (List ℕ)) (item : Item) → number < 2 ^ 32 → IsItem item → decimal number ∷ outcome_text outcome ∷ words ≡ item_words item → answer_of item ≡ Some outcome
+pub answers : (number : ℕ) (outcome : Outcome) (words : List (List ℕ)) (item : Item) → number < 2 ^ 32 → IsItem item → decimal number ∷ outcome_text outcome ∷ words ≡ item_words item → answer_of item ≡ Some outcome
 answers number outcome words item fits valid is =
     let found = answered number (outcome_text outcome ∷ words) item fits valid is in
     let parts = found.parts in
@@ -447,7 +447,7 @@ no_equal_digits word words bytes other fits text one value p =
           )
     ]
 
-abbrev first_byte : List (List ℕ) → ℕ
+abbrev pub first_byte : List (List ℕ) → ℕ
 first_byte [] = 0
 first_byte (word ∷ words) = slice_index word 0
 

@@ -6,7 +6,9 @@ ghost use Rattle.trace_text.specs.Trace.{IsBlock, IsKind, data_words, end_text, 
 
 use crate::line::one_byte;
 use storage_model::{Block, BusKind, End, Letter, Why};
-use text_words::{Words, read_decimal, read_decimal_in, read_hex_byte, read_hex_bytes, read_hex_word};
+use text_words::{
+    Words, read_decimal, read_decimal_in, read_hex_byte, read_hex_bytes, read_hex_word,
+};
 
 pub fn number(mut words: Words) -> Option<u32>
     ensures { Reads result (λ n. (n < 2 ^ 32) × (words.entry ≡ decimal n ∷ [])) }

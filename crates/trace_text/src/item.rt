@@ -6,8 +6,8 @@ ghost use Rattle.trace_text.specs.Names.{keyword_text, outcome_text};
 ghost use Rattle.trace_text.specs.Trace.{IsItem, item_words};
 
 use crate::fields::{
-    bus_fields, data, geometry, is_range, last_end, last_hex, last_id, last_letter, last_why, number,
-    number_and_data, number_and_hex, phase_fields, tagged, two_numbers,
+    bus_fields, data, geometry, is_range, last_end, last_hex, last_id, last_letter, last_why,
+    number, number_and_data, number_and_hex, phase_fields, tagged, two_numbers,
 };
 use crate::keyword::{Keyword, Outcome, read_keyword, read_outcome};
 use storage_model::Item;
