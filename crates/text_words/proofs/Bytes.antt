@@ -1,7 +1,7 @@
 -- Bytes as two hexadecimal digits.
-use Rattle.std.proofs.Common.{◌≡◌, ℕ, ◌+◌, ◌*◌, ◌/◌, ◌%◌, ◌<◌, List, [], ◌∷◌, length, get_or, slice_index, Some, refl, sym, ap, ◌∙◌, arith}
-use Rattle.hex.specs.Hex.{encode_with, lower_digits, hex_digit_value}
-use Rattle.hex.proofs.HexLemmas.{IsDigits-lower_digits}
+use Rattle.std.proofs.Common.{◌≡◌, ℕ, ◌+◌, ◌*◌, ◌/◌, ◌%◌, ◌<◌, List, [], ◌∷◌, length, get_or, slice_index, Some, Ok, refl, sym, ap, ◌∙◌, arith}
+use Rattle.hex.specs.Hex.{IsBytes, decode_of, encode_lower, encode_with, lower_digits, hex_digit_value}
+use Rattle.hex.proofs.HexLemmas.{IsDigits-lower_digits, decode_of-encode_lower}
 use Rattle.text_words.specs.Words.{hex_byte}
 
 digits_of_byte : (byte high low : ℕ) → high < 16 → low < 16 → byte ≡ 16 * high + low
@@ -35,3 +35,12 @@ hex_byte-injective m n fits small same =
     let high : m / 16 ≡ n / 16 = digit_injective (m / 16) (n / 16) (omega arith) (omega arith) (cc) in
     let low : m % 16 ≡ n % 16 = digit_injective (m % 16) (n % 16) (omega arith) (omega arith) (cc) in
     omega arith
+
+-- bytes have one text, and a text is of one list of bytes
+pub encode_lower-injective : (xs ys : List ℕ) → IsBytes xs → IsBytes ys → encode_lower xs ≡ encode_lower ys → xs ≡ ys
+encode_lower-injective xs ys fits small same =
+    let one = decode_of-encode_lower xs fits in
+    let two = decode_of-encode_lower ys small in
+    let read = ap (λ (text : List ℕ). decode_of text) same in
+    let both : Ok xs ≡ Ok ys = sym one ∙ read ∙ two in
+    cc

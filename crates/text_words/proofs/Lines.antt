@@ -1,8 +1,8 @@
 -- Lines and words, taken apart and joined.
-use Rattle.std.proofs.Common.{◌≡◌, ◌≢◌, ℕ, ◌<◌, ◌≤◌, Bool, nat_lt, ◌&&◌, true, false, eqb, List, [], ◌∷◌, ◌++◌, refl, ap, ◌∙◌, arith}
+use Rattle.std.proofs.Common.{◌≡◌, ◌≢◌, ℕ, ◌<◌, ◌≤◌, Bool, nat_lt, ◌&&◌, true, false, eqb, List, [], ◌∷◌, ◌++◌, refl, ap, sym, ◌∙◌, arith}
 use Rattle.std.specs.Prelude.{All}
 use Rattle.std.proofs.lemmas.List.Elements.{All-nil, All-cons, All-head, All-tail, All-append, All-weaker}
-use Rattle.std.proofs.lemmas.List.Splits.{slice_split_none, slice_split_at}
+use Rattle.std.proofs.lemmas.List.Splits.{join_with_byte-slice_split, slice_split_none, slice_split_at}
 use Rattle.std.proofs.lemmas.Bool.{ne_eqb, and_parts, ltb-true}
 use Rattle.text_words.specs.Words.{spaced, words_of}
 
@@ -66,3 +66,19 @@ line_free (word ∷ next ∷ words) plain =
 pub not_free : (mark : ℕ) (front rest : List ℕ) → IsFree mark (front ++ mark ∷ rest) → ⊥
 not_free mark [] rest free = All-head (λ b. b ≢ mark) mark rest free refl
 not_free mark (b ∷ front) rest free = not_free mark front rest (All-tail (λ b. b ≢ mark) b (front ++ mark ∷ rest) free)
+
+-- a line has a word
+pub words_some : (text : List ℕ) → words_of text ≢ []
+words_some text none =
+    let empty : text ≡ [] = sym (join_with_byte-slice_split 32 text) ∙ ap spaced none in
+    let both : [] ∷ [] ≡ [] = ap words_of (sym empty) ∙ none in
+    cc
+
+-- a word in front of others
+pub spaced-more : (word : List ℕ) (words : List (List ℕ)) → words ≢ [] → spaced (word ∷ words) ≡ word ++ 32 ∷ spaced words
+spaced-more word [] some = absurd (some refl)
+spaced-more word (next ∷ words) some = refl
+
+pub words_of-words : (words : List (List ℕ)) → words ≢ [] → All (IsFree 32) words → words_of (spaced words) ≡ words
+words_of-words [] some free = absurd (some refl)
+words_of-words (word ∷ words) some free = words_of-spaced word words free

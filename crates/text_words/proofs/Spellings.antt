@@ -1,11 +1,11 @@
 -- Numbers and bytes are words.
-use Rattle.std.proofs.Common.{◌≡◌, ℕ, zero, suc, ◌+◌, ◌/◌, ◌%◌, ◌^◌, ◌<◌, List, [], ◌∷◌, ◌++◌, decimal, refl, arith}
-use Rattle.std.specs.Prelude.{All, slice_index}
+use Rattle.std.proofs.Common.{ℕ, zero, suc, ◌+◌, ◌/◌, ◌%◌, ◌^◌, ◌<◌, List, [], ◌∷◌, ◌++◌, length, decimal, refl, arith}
+use Rattle.std.specs.Prelude.{slice_index}
 use Rattle.std.proofs.lemmas.Fmt.{decimal_by_steps}
 use Rattle.std.proofs.lemmas.List.Elements.{All-nil, All-cons, All-append, All-get_or}
 use Rattle.hex.specs.Hex.{IsBytes, encode_lower, encode_with, lower_digits}
 use Rattle.text_words.specs.Words.{hex_byte}
-use Rattle.text_words.proofs.Lines.{IsFree, IsWord, word_from_test}
+use Rattle.text_words.proofs.Lines.{IsWord, word_from_test}
 
 pub decimal_word : (n : ℕ) → n < 2 ^ 32 → IsWord (decimal n)
 decimal_word n fits =
@@ -32,3 +32,22 @@ one_byte byte fits (suc k) = omega arith
 
 pub byte_word : (byte : ℕ) → byte < 256 → IsWord (hex_byte byte)
 byte_word byte fits = digits_word (byte ∷ []) (one_byte byte fits)
+
+abbrev BeginsWithDigit : List ℕ → Type 0
+BeginsWithDigit digits = (0 < length digits) × (47 < slice_index digits 0) × (slice_index digits 0 < 58)
+
+front_digit : (digits more : List ℕ) → BeginsWithDigit digits → BeginsWithDigit (digits ++ more)
+front_digit [] more digit = absurd (omega (arith, digit.0))
+front_digit (d ∷ digits) more digit = (omega arith, digit.1, digit.2)
+
+decimal_digits : (n : ℕ) → n < 2 ^ 32 → BeginsWithDigit (decimal n)
+decimal_digits n fits =
+    decimal_by_steps (λ n digits. BeginsWithDigit digits) (λ n small. (omega arith, omega arith, omega arith))
+    (λ n digits big front. front_digit digits ((48 + n % 10) ∷ []) front) n (omega arith)
+
+-- a number begins with a digit
+pub decimal_low : (n : ℕ) → n < 2 ^ 32 → slice_index (decimal n) 0 < 58
+decimal_low n fits = (decimal_digits n fits).2
+
+pub decimal_high : (n : ℕ) → n < 2 ^ 32 → 47 < slice_index (decimal n) 0
+decimal_high n fits = (decimal_digits n fits).1

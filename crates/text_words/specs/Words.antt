@@ -1,6 +1,7 @@
 -- The words that every line is made of. A number and a byte have one spelling each.
 use Rattle.std.specs.Prelude.{ℕ, ◌++◌, ◌==◌, List, [], ◌∷◌, Option, Some, None, codes}
 use Rattle.std.specs.List.{join_with_byte, slice_split}
+use Rattle.std.specs.Int.{w32, to_be_bytes}
 use Rattle.hex.specs.Hex.{encode_lower}
 
 -- words parted by single spaces
@@ -23,3 +24,7 @@ words_left (Some text) = words_of text
 -- a byte as two lower case hexadecimal digits
 abbrev pub hex_byte : ℕ → List ℕ
 hex_byte byte = encode_lower (byte ∷ [])
+
+-- a number of 32 bits as eight digits, the highest first
+abbrev pub hex_word : ℕ → List ℕ
+hex_word number = encode_lower (to_be_bytes w32 number)

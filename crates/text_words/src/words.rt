@@ -56,4 +56,14 @@ impl<'a> Words<'a> {
             }
         }
     }
+
+    /// Whether no word is left.
+    pub fn end(&self) -> Option<()>
+        ensures { MatchOption result (self.now ≢ []) (λ _. self.now ≡ []) }
+    {
+        match self.rest {
+            Some(_) => None,
+            None => Some(()),
+        }
+    }
 }

@@ -1,9 +1,11 @@
 -- The one text of each line of a trace: words parted by single spaces, and a line feed.
-use Rattle.std.specs.Prelude.{◌==◌, ℕ, Bool, true, false, if◌then◌else◌, List, [], ◌∷◌, ◌++◌, Option, Some, None, slice_index, flat_map, codes, decimal}
+use Rattle.std.specs.Prelude.{◌==◌, ◌≡◌, ◌≢◌, ℕ, ◌+◌, ◌^◌, ◌<◌, Bool, true, false, if◌then◌else◌, List, [], ◌∷◌, ◌++◌, Option, Some, None, IfSome, All, length, min, slice_index, flat_map, codes, decimal}
 use Rattle.std.specs.List.{list_all}
-use Rattle.hex.specs.Hex.{encode_lower}
-use Rattle.std.specs.Int.{w32, to_be_bytes}
+use Rattle.hex.specs.Hex.{IsBytes, encode_lower}
+use Rattle.text_words.specs.Words.{line, hex_byte, hex_word}
 use Rattle.storage_model.specs.declared.block.Block.{Block}
+use Rattle.storage_model.specs.declared.ends.TextEnd.{TextEnd}
+use Rattle.storage_model.specs.declared.ends.TextEnd.TheVariants.{Bad as BadLine, NoMemory}
 use Rattle.storage_model.specs.declared.faults.BusKind.{BusKind}
 use Rattle.storage_model.specs.declared.faults.BusKind.TheVariants.{Lost as LostCommand, NoResp, Bad, Late}
 use Rattle.storage_model.specs.declared.faults.Letter.{Letter}
@@ -15,21 +17,13 @@ use Rattle.storage_model.specs.declared.trace.Why.TheVariants.{Bus as BusFault, 
 use Rattle.storage_model.specs.declared.trace.Item.{Item}
 use Rattle.storage_model.specs.declared.trace.Item.TheVariants.{Card, Issue, Params, Address, Poll, Phase, Discard, Bus, Flash, Recover, Irq, Done, Read, Sector, Status, Fault, Refused, Cut, Lost, On, Left, Turn, Off}
 
--- one word more
-abbrev pub word : List ℕ → List ℕ
-word text = 32 ∷ text
-
--- eight digits, the highest first
-abbrev pub hex_word : ℕ → List ℕ
-hex_word number = encode_lower (to_be_bytes w32 number)
-
 -- whether all bytes equal the first
 abbrev pub is_one_byte : List ℕ → Bool
 is_one_byte bytes = list_all (λ byte. byte == slice_index bytes 0) bytes
 
 -- `fill` and the byte, or all digits
-unfoldable pub data_text : Block → List ℕ
-data_text value = if is_one_byte value.0 then codes "fill" ++ word (encode_lower (slice_index value.0 0 ∷ [])) else encode_lower value.0
+unfoldable pub data_words : Block → List (List ℕ)
+data_words value = if is_one_byte value.0 then codes "fill" ∷ hex_byte (slice_index value.0 0) ∷ [] else encode_lower value.0 ∷ []
 
 abbrev pub lines_text : Option ℕ → List ℕ
 lines_text (Some lines) = decimal lines
@@ -39,11 +33,12 @@ abbrev pub id_text : Option ℕ → List ℕ
 id_text (Some id) = decimal id
 id_text None = codes "-"
 
-abbrev pub kind_text : BusKind → List ℕ
-kind_text LostCommand = codes "lost"
-kind_text NoResp = codes "noresp"
-kind_text (Bad block) = codes "data" ++ word (decimal block)
-kind_text Late = codes "late"
+-- a bus fault, and whose it was
+abbrev pub kind_words : BusKind → Option ℕ → List (List ℕ)
+kind_words LostCommand id = codes "lost" ∷ id_text id ∷ []
+kind_words NoResp id = codes "noresp" ∷ id_text id ∷ []
+kind_words (Bad block) id = codes "data" ∷ decimal block ∷ id_text id ∷ []
+kind_words Late id = codes "late" ∷ id_text id ∷ []
 
 abbrev pub why_text : Why → List ℕ
 why_text BusFault = codes "bus"
@@ -61,40 +56,96 @@ end_text FaultEnd = codes "fault"
 end_text Dead = codes "dead"
 end_text Image = codes "image"
 
-abbrev pub kept_text : Bool → List ℕ
-kept_text true = word (codes "kept")
-kept_text false = []
+abbrev pub kept_words : Bool → List (List ℕ)
+kept_words true = codes "kept" ∷ []
+kept_words false = []
 
 -- the words of a line
-abbrev pub item_words : Item → List ℕ
-item_words (Card sectors depth lines) = codes "card" ++ word (decimal sectors) ++ word (decimal depth) ++ word (lines_text lines)
-item_words (Issue id tag) = codes "issue" ++ word (decimal id) ++ word (decimal tag)
-item_words (Params n id) = codes "params" ++ word (decimal n) ++ word (decimal id)
-item_words (Address n id) = codes "address" ++ word (decimal n) ++ word (decimal id)
-item_words (Poll n mask) = codes "poll" ++ word (decimal n) ++ word (hex_word mask)
-item_words (Phase n id count kept) = codes "phase" ++ word (decimal n) ++ word (decimal id) ++ word (decimal count) ++ kept_text kept
-item_words (Discard n) = codes "discard" ++ word (decimal n)
-item_words (Bus n kind id) = codes "bus" ++ word (decimal n) ++ word (kind_text kind) ++ word (id_text id)
-item_words (Flash id) = codes "flash" ++ word (id_text id)
-item_words Recover = codes "recover"
-item_words (Irq mask) = codes "irq" ++ word (hex_word mask)
-item_words (Done id) = decimal id ++ word (codes "ok")
-item_words (Read id) = decimal id ++ word (codes "data")
-item_words (Sector value) = data_text value
-item_words (Status id number) = decimal id ++ word (codes "status") ++ word (hex_word number)
-item_words (Fault id why) = decimal id ++ word (codes "fault") ++ word (why_text why)
-item_words (Refused id) = decimal id ++ word (codes "refused") ++ word (codes "range")
-item_words Cut = codes "cut"
-item_words (Lost id) = decimal id ++ word (codes "lost")
-item_words On = codes "on"
-item_words (Left sector value) = codes "left" ++ word (decimal sector) ++ word (data_text value)
-item_words (Turn letter) = codes "turn" ++ word (letter_text letter)
-item_words (Off end) = codes "off" ++ word (end_text end)
+abbrev pub item_words : Item → List (List ℕ)
+item_words (Card sectors depth lines) = codes "card" ∷ decimal sectors ∷ decimal depth ∷ lines_text lines ∷ []
+item_words (Issue id tag) = codes "issue" ∷ decimal id ∷ decimal tag ∷ []
+item_words (Params n id) = codes "params" ∷ decimal n ∷ decimal id ∷ []
+item_words (Address n id) = codes "address" ∷ decimal n ∷ decimal id ∷ []
+item_words (Poll n mask) = codes "poll" ∷ decimal n ∷ hex_word mask ∷ []
+item_words (Phase n id count kept) = codes "phase" ∷ decimal n ∷ decimal id ∷ decimal count ∷ kept_words kept
+item_words (Discard n) = codes "discard" ∷ decimal n ∷ []
+item_words (Bus n kind id) = codes "bus" ∷ decimal n ∷ kind_words kind id
+item_words (Flash id) = codes "flash" ∷ id_text id ∷ []
+item_words Recover = codes "recover" ∷ []
+item_words (Irq mask) = codes "irq" ∷ hex_word mask ∷ []
+item_words (Done id) = decimal id ∷ codes "ok" ∷ []
+item_words (Read id) = decimal id ∷ codes "data" ∷ []
+item_words (Sector value) = data_words value
+item_words (Status id number) = decimal id ∷ codes "status" ∷ hex_word number ∷ []
+item_words (Fault id why) = decimal id ∷ codes "fault" ∷ why_text why ∷ []
+item_words (Refused id) = decimal id ∷ codes "refused" ∷ codes "range" ∷ []
+item_words Cut = codes "cut" ∷ []
+item_words (Lost id) = decimal id ∷ codes "lost" ∷ []
+item_words On = codes "on" ∷ []
+item_words (Left sector value) = codes "left" ∷ decimal sector ∷ data_words value
+item_words (Turn letter) = codes "turn" ∷ letter_text letter ∷ []
+item_words (Off end) = codes "off" ∷ end_text end ∷ []
 
 -- a line and its line feed
 unfoldable pub item_text : Item → List ℕ
-item_text item = item_words item ++ 10 ∷ []
+item_text item = line (item_words item)
 
 -- the lines one after the other
 abbrev pub items_text : List Item → List ℕ
 items_text items = flat_map item_text items
+
+-- 512 bytes
+pub record IsBlock (value : Block) : Type 0 where
+  pub bytes : IsBytes value.0
+  pub long : length value.0 ≡ 512
+
+abbrev pub IsKind : BusKind → Type 0
+IsKind (Bad block) = block < 2 ^ 16
+IsKind _ = Unit {0}
+
+-- the numbers of a line have the sizes of their types
+abbrev pub IsItem : Item → Type 0
+IsItem (Card sectors depth lines) = (sectors < 2 ^ 32) × (depth < 2 ^ 8) × IfSome lines (λ n. n < 2 ^ 16)
+IsItem (Issue id tag) = (id < 2 ^ 32) × (tag < 2 ^ 8)
+IsItem (Params n id) = (n < 2 ^ 32) × (id < 2 ^ 32)
+IsItem (Address n id) = (n < 2 ^ 32) × (id < 2 ^ 32)
+IsItem (Poll n mask) = (n < 2 ^ 32) × (mask < 2 ^ 32)
+IsItem (Phase n id count kept) = (n < 2 ^ 32) × (id < 2 ^ 32) × (count < 2 ^ 16)
+IsItem (Discard n) = n < 2 ^ 32
+IsItem (Bus n kind id) = (n < 2 ^ 32) × IsKind kind × IfSome id (λ n. n < 2 ^ 32)
+IsItem (Flash id) = IfSome id (λ n. n < 2 ^ 32)
+IsItem Recover = Unit {0}
+IsItem (Irq mask) = mask < 2 ^ 32
+IsItem (Done id) = id < 2 ^ 32
+IsItem (Read id) = id < 2 ^ 32
+IsItem (Sector value) = IsBlock value
+IsItem (Status id number) = (id < 2 ^ 32) × (number < 2 ^ 32)
+IsItem (Fault id why) = id < 2 ^ 32
+IsItem (Refused id) = id < 2 ^ 32
+IsItem Cut = Unit {0}
+IsItem (Lost id) = id < 2 ^ 32
+IsItem On = Unit {0}
+IsItem (Left sector value) = (sector < 2 ^ 32) × IsBlock value
+IsItem (Turn letter) = Unit {0}
+IsItem (Off end) = Unit {0}
+
+-- the text means these items
+pub record Means (bytes : List ℕ) (items : List Item) : Type 0 where
+  pub text : bytes ≡ items_text items
+  pub each : All IsItem items
+
+-- the first bad line: items stand before it, and no item's text begins the rest
+pub record IsBadAfter (bytes : List ℕ) (good : List Item) (rest : List ℕ) : Type 0 where
+  pub text : bytes ≡ items_text good ++ rest
+  pub each : All IsItem good
+  pub more : rest ≢ []
+  pub bad : (item : Item) (after : List ℕ) → IsItem item → ¬ (rest ≡ item_text item ++ after)
+
+-- its number, counted from 1. A number past 32 bits stands at the last of them
+abbrev pub IsBadAt : List ℕ → ℕ → Type 0
+IsBadAt bytes number = (good : List Item) × (rest : List ℕ) × IsBadAfter bytes good rest × (number ≡ min (length good + 1) 4294967295)
+
+-- why a text is refused: at its first bad line. Want of memory has no cause in the text
+abbrev pub IsRefused : List ℕ → TextEnd → Type 0
+IsRefused bytes (BadLine number) = IsBadAt bytes number
+IsRefused bytes NoMemory = Unit {0}

@@ -2,7 +2,9 @@
 ghost use Rattle.std.specs.Prelude.{◌≡◌, ◌+◌, ◌≤◌, ◌++◌, ◌∷◌, [], length, codes, decimal};
 ghost use Rattle.hex.specs.Hex.{encode_lower};
 ghost use Rattle.arrayvec.specs.ArrayVec.{array_vec_len};
-ghost use Rattle.trace_text.specs.Trace.{word, data_text, hex_word, id_text, kind_text, is_one_byte};
+ghost use Rattle.text_words.specs.Words.{hex_byte, hex_word, spaced};
+ghost use Rattle.trace_text.specs.Line.{word};
+ghost use Rattle.trace_text.specs.Trace.{data_words, id_text, kind_words, is_one_byte};
 
 use arrayvec::ArrayVec;
 use itoa::Buffer;
@@ -71,7 +73,7 @@ impl Line {
 
     /// A line that begins with a sector's bytes.
     pub fn of_data(value: &Block) -> Self
-        ensures text { result.text.items ≡ data_text value.now }
+        ensures text { result.text.items ≡ spaced (data_words value.now) }
         ensures len { array_vec_len result.text ≤ 1270 }
     {
         let mut line = Line {
@@ -84,18 +86,18 @@ impl Line {
     /// A sector's bytes as a word.
     pub fn data(&mut self, value: &Block)
         requires { array_vec_len self.old.text ≤ 150 }
-        ensures text { self.new.text.items ≡ self.old.text.items ++ word (data_text value.now) }
+        ensures text { self.new.text.items ≡ self.old.text.items ++ word (spaced (data_words value.now)) }
         ensures len { array_vec_len self.new.text ≤ array_vec_len self.old.text + 1025 }
     {
         self.text.push(b' ');
         self.bytes(value);
     }
 
-    /// What befell a command.
-    pub fn kind(&mut self, kind: BusKind)
+    /// What befell a command, and whose it was.
+    pub fn kind(&mut self, kind: BusKind, id: Option<u32>)
         requires { array_vec_len self.old.text ≤ 150 }
-        ensures text { self.new.text.items ≡ self.old.text.items ++ word (kind_text kind) }
-        ensures len { array_vec_len self.new.text ≤ array_vec_len self.old.text + 82 }
+        ensures text { self.new.text.items ≡ self.old.text.items ++ word (spaced (kind_words kind id)) }
+        ensures len { array_vec_len self.new.text ≤ array_vec_len self.old.text + 123 }
     {
         match kind {
             BusKind::Lost => self.word(b"lost"),
@@ -106,11 +108,12 @@ impl Line {
             }
             BusKind::Late => self.word(b"late"),
         }
+        self.id(id);
     }
 
     /// A request's number, or `-`.
     pub fn id(&mut self, id: Option<u32>)
-        requires { array_vec_len self.old.text ≤ 190 }
+        requires { array_vec_len self.old.text ≤ 240 }
         ensures text { self.new.text.items ≡ self.old.text.items ++ word (id_text id) }
         ensures len { array_vec_len self.new.text ≤ array_vec_len self.old.text + 41 }
     {
@@ -120,10 +123,10 @@ impl Line {
         }
     }
 
-    #[tactic(auto, unfolding(crate::specs::Trace::data_text))]
+    #[tactic(auto, unfolding(crate::specs::Trace::data_words))]
     fn bytes(&mut self, value: &Block)
         requires { array_vec_len self.old.text ≤ 200 }
-        ensures text { self.new.text.items ≡ self.old.text.items ++ data_text value.now }
+        ensures text { self.new.text.items ≡ self.old.text.items ++ spaced (data_words value.now) }
         ensures len { array_vec_len self.new.text ≤ array_vec_len self.old.text + 1024 }
     {
         if one_byte(value) {
@@ -135,7 +138,7 @@ impl Line {
 
     fn fill(&mut self, byte: u8)
         requires { array_vec_len self.old.text ≤ 200 }
-        ensures text { self.new.text.items ≡ self.old.text.items ++ (codes "fill" ++ word (encode_lower (byte ∷ []))) }
+        ensures text { self.new.text.items ≡ self.old.text.items ++ (codes "fill" ++ word (hex_byte byte)) }
         ensures len { array_vec_len self.new.text ≤ array_vec_len self.old.text + 45 }
     {
         let mut digits = [0; 2];
@@ -162,7 +165,7 @@ impl Line {
     }
 }
 
-fn one_byte(value: &Block) -> bool
+pub fn one_byte(value: &Block) -> bool
     ensures { result ≡ is_one_byte value.now.0 }
 {
     value.0.iter().all(|byte| *byte == value.0[0])

@@ -2,7 +2,9 @@ ghost use Rattle.std.specs.Prelude.{◌≡◌, ◌≤◌, ◌++◌, ◌∷◌, [
 ghost use Rattle.storage_model.specs.Count.{Later, Rose};
 ghost use Rattle.io_edge.specs.Sink.{Wrote};
 ghost use Rattle.arrayvec.specs.ArrayVec.{array_vec_len};
-ghost use Rattle.trace_text.specs.Trace.{word, data_text, hex_word, lines_text, id_text, kind_text, why_text, letter_text, end_text, kept_text, item_words, item_text};
+ghost use Rattle.text_words.specs.Words.{hex_word, spaced};
+ghost use Rattle.trace_text.specs.Line.{word};
+ghost use Rattle.trace_text.specs.Trace.{data_words, lines_text, id_text, kind_words, why_text, letter_text, end_text, kept_words, item_words, item_text};
 
 use crate::line::Line;
 use io_edge::{Failed, Sink, put_all};
@@ -28,7 +30,7 @@ fn line_of(item: &Item) -> Line
 }
 
 fn words_of(item: &Item) -> Line
-    ensures text { result.text.items ≡ item_words item.now }
+    ensures text { result.text.items ≡ spaced (item_words item.now) }
     ensures len { array_vec_len result.text ≤ 1270 }
 {
     match item {
@@ -114,7 +116,7 @@ fn poll(n: u32, mask: u32) -> Line
 }
 
 fn phase(n: u32, id: u32, count: u16, kept: bool) -> Line
-    ensures text { result.text.items ≡ codes "phase" ++ word (decimal n) ++ word (decimal id) ++ word (decimal count) ++ kept_text kept }
+    ensures text { result.text.items ≡ spaced (codes "phase" ∷ decimal n ∷ decimal id ∷ decimal count ∷ kept_words kept) }
     ensures len { array_vec_len result.text ≤ 240 }
 {
     let mut line = numbers(b"phase", n, id);
@@ -126,12 +128,11 @@ fn phase(n: u32, id: u32, count: u16, kept: bool) -> Line
 }
 
 fn bus(n: u32, kind: BusKind, id: Option<u32>) -> Line
-    ensures text { result.text.items ≡ codes "bus" ++ word (decimal n) ++ word (kind_text kind) ++ word (id_text id) }
+    ensures text { result.text.items ≡ codes "bus" ++ word (decimal n) ++ word (spaced (kind_words kind id)) }
     ensures len { array_vec_len result.text ≤ 240 }
 {
     let mut line = with_number(b"bus", n);
-    line.kind(kind);
-    line.id(id);
+    line.kind(kind, id);
     line
 }
 
@@ -184,7 +185,7 @@ fn refused(id: u32) -> Line
 }
 
 fn left(sector: u32, value: &Block) -> Line
-    ensures text { result.text.items ≡ codes "left" ++ word (decimal sector) ++ word (data_text value.now) }
+    ensures text { result.text.items ≡ spaced (codes "left" ∷ decimal sector ∷ data_words value.now) }
     ensures len { array_vec_len result.text ≤ 1270 }
 {
     let mut line = with_number(b"left", sector);
