@@ -1,2 +1,4 @@
+pub mod ItemMeanings
 pub mod ItemTexts
 pub mod ItemWords
+pub mod OneItem

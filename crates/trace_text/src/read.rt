@@ -1,6 +1,7 @@
 // A trace's text.
 ghost use Rattle.std.specs.Prelude.{◌≡◌, ◌++◌, ℕ, List, IfOk, IfErr, IfNone, IfSome};
 ghost use Rattle.storage_model.specs.declared.trace.Item.{Item};
+ghost use Rattle.storage_model.specs.declared.ends.TextEnd.TheVariants.{NoMemory as OutOfMemory};
 ghost use Rattle.trace_text.specs.Trace.{IsItem, IsRefused, Means, item_text};
 
 use crate::item::read_item;
@@ -13,6 +14,9 @@ use text_words::split_once;
 pub fn read_items(alloc: Global, bytes: &[u8]) -> Result<ItemList, TextEnd>
     ensures means { IfOk result (Means bytes.now) }
     ensures bad { IfErr result (IsRefused bytes.now) }
+
+    // The text that items have is read as these items.
+    ensures again { (items : List Item) → Means bytes.now items → IfOk result (λ read. read ≡ items) × IfErr result (λ end. end ≡ OutOfMemory) }
 {
     let mut items = ItemList::new(alloc);
     let mut number: u32 = 1;

@@ -1,4 +1,4 @@
-use Rattle.std.proofs.Common.{◌≡◌, ◌∙◌, sym}
+use Rattle.std.proofs.Common.{◌∙◌, sym}
 use Rattle.storage_model.specs.declared.block.Block.{Block}
 use Rattle.trace_text.proofs.ItemWords.{data_digits, no_digits, no_equal_digits, no_more_words}
 use Rattle.trace_text.proofs.fields.digits.Goals as goal

@@ -1,5 +1,4 @@
-use Rattle.std.proofs.Common.{◌≡◌, ◌∷◌, ◌∙◌, arith}
-use Rattle.trace_text.specs.Trace.{IsItem, item_words}
+use Rattle.std.proofs.Common.{arith}
 use Rattle.trace_text.proofs.ItemWords.{no_lone_number, no_other_outcome}
 use Rattle.trace_text.proofs.item.answer.Goals as goal
 

@@ -1,5 +1,4 @@
-use Rattle.std.proofs.Common.{◌≡◌, ◌∷◌, ◌∙◌, sym}
-use Rattle.text_words.specs.Words.{words_of}
+use Rattle.std.proofs.Common.{◌∙◌, sym}
 use Rattle.text_words.proofs.Lines.{words_some}
 use Rattle.trace_text.proofs.ItemTexts.{reads_line}
 use Rattle.trace_text.proofs.item.read_item.Goals as goal

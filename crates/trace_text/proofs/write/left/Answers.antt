@@ -1,4 +1,4 @@
-use Rattle.std.proofs.Common.{◌≡◌, ◌∙◌, ◌++◌, ◌∷◌, [], ap, sym, append_assoc, codes, decimal, List, ℕ}
+use Rattle.std.proofs.Common.{◌++◌, ◌∷◌, [], append_assoc, codes, decimal}
 use Rattle.text_words.proofs.Lines.{spaced-more}
 use Rattle.trace_text.specs.Trace.{data_words}
 use Rattle.trace_text.proofs.ItemWords.{data_words-some}
