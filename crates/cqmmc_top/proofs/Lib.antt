@@ -1,4 +1,5 @@
 pub mod Forms
+pub mod Leaving
 pub mod Listed
 pub mod Making
 pub mod Names

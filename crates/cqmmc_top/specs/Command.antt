@@ -14,7 +14,7 @@ use Rattle.cqmmc_top.specs.declared.refusal.Refusal.TheVariants.{Usage}
 use Rattle.cqmmc_top.specs.Answers.{IsRunRefused, is_past}
 use Rattle.cqmmc_top.specs.Opened.{HasSectors, OpeningRefused}
 use Rattle.cqmmc_top.specs.Listing.{csd_text}
-use Rattle.cqmmc_top.specs.Made.{IsZeroImage, MakingRefused}
+use Rattle.cqmmc_top.specs.Made.{IsLeft, IsZeroImage, MakingRefused}
 use Rattle.ext_csd.specs.Values.{fresh}
 use Rattle.cqmmc_top.specs.Print.{HasCause, Served}
 use Rattle.cqmmc_top.specs.Refusal.{status_of, refusal_text}
@@ -112,10 +112,11 @@ module _ {K : Type 0} (took : K → List ℕ → K → Type 0) (faults_of : K �
   abbrev pub ListAnswers : ArrayState → ArrayState → K → ℕ → K → Type 0
   ListAnswers old new out status out' = IsUnopened old new out status out' ⊎ IsListed old new out status out'
 
-  -- no image was made
+  -- no image was made, and what is left is no image, the old one or the new one
   pub record IsUnmade (sectors : ℕ) (old new : ArrayState) (out : K) (status : ℕ) (out' : K) : Type 0 where
     pub refusal : Refusal
     pub cause : MakingRefused sectors old new refusal
+    pub left : IsLeft sectors old.told new.told
     pub says : Says refusal out status out'
 
   -- an image of zero sectors was made

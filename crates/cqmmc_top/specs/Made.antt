@@ -1,5 +1,5 @@
 -- A new image, and why none was made.
-use Rattle.std.specs.Prelude.{◌≡◌, ℕ, ◌+◌, ◌<◌, ◌≤◌, true, List, length, replicate, Option, Some, None, IfErr, OnOk, Result}
+use Rattle.std.specs.Prelude.{◌≡◌, ◌⊎◌, ℕ, ◌+◌, ◌<◌, ◌≤◌, true, List, length, replicate, Option, Some, None, IfErr, IfSome, OnOk, Result, drop}
 use Rattle.storage_model.specs.Count.{Later, Rose}
 use Rattle.storage_model.specs.declared.block.Block.{Block}
 use Rattle.array_edge.specs.Array.{ArrayState, page_at}
@@ -45,3 +45,11 @@ pub record Makes (old new : ArrayState) (result : Result (Unit {0}) Refusal) : T
 abbrev pub MakingRefused : ℕ → ArrayState → ArrayState → Refusal → Type 0
 MakingRefused sectors old new BadImage = (old.count < 8 + sectors) × (new ≡ old)
 MakingRefused sectors old new refusal = CallRefused old new refusal
+
+-- the first page is zeros
+abbrev pub IsCleared : Option (List Block) → Type 0
+IsCleared told = IfSome told (λ pages. page_at pages 0 ≡ zero_block)
+
+-- Where no image was made, the pages are no image, or those behind the first are as they were, or the new image is whole.
+abbrev pub IsLeft : ℕ → Option (List Block) → Option (List Block) → Type 0
+IsLeft sectors old new = IfSome new (λ pages. IsImage pages → IfSome old (λ before. drop 1 pages ≡ drop 1 before) ⊎ IsZeroImage sectors pages)

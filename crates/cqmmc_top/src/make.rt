@@ -1,8 +1,8 @@
 // A new image.
-ghost use Rattle.std.specs.Prelude.{◌≡◌, ◌+◌, ◌<◌, ◌≤◌, true, IfErr, IfSome, OnOk};
+ghost use Rattle.std.specs.Prelude.{◌≡◌, ◌+◌, ◌<◌, ◌≤◌, true, IfErr, IfSome, OnErr, OnOk};
 ghost use Rattle.storage_model.specs.Count.{Later};
-ghost use Rattle.array_edge.specs.Array.{with_page};
-ghost use Rattle.cqmmc_top.specs.Made.{Blanked, CallRefused, IsZeroImage, Makes, MakingRefused, zero_block};
+ghost use Rattle.array_edge.specs.Array.{IsTorn, with_page};
+ghost use Rattle.cqmmc_top.specs.Made.{Blanked, CallRefused, IsCleared, IsLeft, IsZeroImage, Makes, MakingRefused, zero_block};
 
 use crate::refusal::Refusal;
 use array_edge::{Array, ArrayEnd};
@@ -19,6 +19,7 @@ pub fn make_image<A: Array>(sectors: u32, array: &mut A) -> Result<(), Refusal>
     ensures made { OnOk result (IfSome (A.state array.new).told (IsZeroImage sectors)) }
     ensures room { OnOk result (8 + sectors ≤ (A.state array.old).count) }
     ensures refused { IfErr result (MakingRefused sectors (A.state array.old) (A.state array.new)) }
+    ensures left { IsLeft sectors (A.state array.old).told (A.state array.new).told }
     ensures faults { Later (A.state array.old).faults (A.state array.new).faults }
     ensures cuts { Later (A.state array.old).cuts (A.state array.new).cuts }
 {
@@ -39,9 +40,11 @@ pub fn make_image<A: Array>(sectors: u32, array: &mut A) -> Result<(), Refusal>
 
 // Writes zeros to the pages from `first` up to `last`, without it.
 fn clear_pages<A: Array>(first: u32, last: u32, array: &mut A) -> Result<(), Refusal>
+    requires behind { 1 ≤ first }
     requires within { last ≤ (A.state array.old).count }
     requires on { (A.state array.old).powered ≡ true }
     ensures blank { OnOk result (Blanked first last (A.state array.old).told (A.state array.new).told) }
+    ensures cleared { IsCleared (A.state array.old).told → IsCleared (A.state array.new).told }
     ensures makes { Makes (A.state array.old) (A.state array.new) result }
 {
     for page in first..last {
@@ -50,10 +53,13 @@ fn clear_pages<A: Array>(first: u32, last: u32, array: &mut A) -> Result<(), Ref
     Ok(())
 }
 
+#[tactic(auto, using(crate::proofs::Leaving::cleared_other, crate::proofs::Leaving::cleared_torn))]
 fn program_page<A: Array>(page: u32, block: &Block, array: &mut A) -> Result<(), Refusal>
     requires within { page < (A.state array.old).count }
     requires on { (A.state array.old).powered ≡ true }
     ensures written { OnOk result ((A.state array.new).told ≡ with_page (A.state array.old).told page block.now) }
+    ensures torn { OnErr result (IsTorn (A.state array.old).told page block.now (A.state array.new).told) }
+    ensures cleared { 1 ≤ page → IsCleared (A.state array.old).told → IsCleared (A.state array.new).told }
     ensures makes { Makes (A.state array.old) (A.state array.new) result }
 {
     match array.program(page, block) {
