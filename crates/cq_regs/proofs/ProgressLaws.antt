@@ -158,6 +158,6 @@ pub progress_rung : (ring : List Ringed) (doorbells slot : ℕ) → IsRing ring 
 progress_rung ring doorbells slot h fits =
     progress_append ring (map newly_rung (filter (rings ring doorbells) (first_slots 32))) slot
     ∙ ap (λ p. cond (has_slot ring slot) (progress_of ring slot) p)
-      (progress_new (filter (rings ring doorbells) (first_slots 32)) slot ∙ ap (λ b. cond b Rung Idle) (chosen (rings ring doorbells) slot))
+    (progress_new (filter (rings ring doorbells) (first_slots 32)) slot ∙ ap (λ b. cond b Rung Idle) (chosen (rings ring doorbells) slot))
     ∙ rung_case (has_slot ring slot) (has_bit doorbells slot) (nat_lt slot 32) (progress_of ring slot) (rung-has_slot ring slot h.started)
-      (past_word doorbells slot fits)
+    (past_word doorbells slot fits)

@@ -28,5 +28,5 @@ returns-clause-slots c =
     let e : c.word.result ≡ slots_word c.self.inside.slots.items = c.word.ensures.value ∙ ap slots_word (sym c.self.view_is) in
     rw (c.ring_slots.ensures, e, ← c.self.view_is)
     (λ slot.
-      ap (λ ring. progress_of ring slot) (rung-anew c.self.inside.slots.items c.args.doorbells c.self.invariant (subst (λ n. n < 2 ^ 32) e c.word.type_inv))
-      ∙ progress_rung c.self.inside.slots.items c.args.doorbells slot c.self.invariant (omega arith))
+    ap (λ ring. progress_of ring slot) (rung-anew c.self.inside.slots.items c.args.doorbells c.self.invariant (subst (λ n. n < 2 ^ 32) e c.word.type_inv))
+    ∙ progress_rung c.self.inside.slots.items c.args.doorbells slot c.self.invariant (omega arith))
