@@ -1,8 +1,7 @@
 -- The bus faults that a script has: which of them befalls a command. A lost command, a response that does not come and
 -- failing data are what a host controller reports as the timeouts and CRC errors of command and data.
-use Rattle.std.specs.Prelude.{◌<◌, ◌≤◌, ℕ, ◌+◌, ◌-◌, ◌^◌, ◌==◌, ◌&&◌, nat_le, Bool, true, false, List, length, Option, Some, None, if◌then◌else◌, slice_index_or}
+use Rattle.std.specs.Prelude.{◌<◌, ◌≤◌, ℕ, ◌+◌, ◌-◌, ◌^◌, ◌==◌, ◌&&◌, nat_le, Bool, true, false, List, length, Option, Some, None, if◌then◌else◌, slice_index_or, min}
 use Rattle.std.specs.List.{AllPairs, find}
-use Rattle.std.proofs.Common.{min}
 use Rattle.storage_model.specs.declared.faults.BusKind.{BusKind}
 use Rattle.storage_model.specs.declared.faults.BusKind.TheVariants.{Lost, NoResp, Bad, Late}
 use Rattle.storage_model.specs.declared.faults.Hit.{Hit}

@@ -1,6 +1,5 @@
 -- A bus whose faults and whose answers to polls are told beforehand, and what its calls leave.
-use Rattle.std.specs.Prelude.{◌≡◌, ◌≤◌, ℕ, ◌+◌, ◌-◌, ◌^◌, nat_lt, List, [], ◌∷◌, ◌++◌, length, Option, None, if◌then◌else◌, slice_get, slice_index_or}
-use Rattle.std.proofs.Common.{min}
+use Rattle.std.specs.Prelude.{◌≡◌, ◌≤◌, ℕ, ◌+◌, ◌-◌, ◌^◌, nat_lt, List, [], ◌∷◌, ◌++◌, length, Option, None, if◌then◌else◌, slice_get, slice_index_or, min}
 use Rattle.circular_buffer.specs.Buffer.{keep_last}
 use Rattle.storage_model.specs.declared.faults.BusKind.{BusKind}
 use Rattle.storage_model.specs.declared.faults.Hit.{Hit}

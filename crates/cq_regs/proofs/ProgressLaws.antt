@@ -1,13 +1,19 @@
 -- How far each slot is after a change of the list.
-use Rattle.std.proofs.Common.{◌≡◌, ℕ, Bool, true, false, List, [], ◌∷◌, map, refl, sym, ap, ◌∙◌, subst}
-use Rattle.std.specs.Prelude.{◌==◌, not, cond, Option, Some}
-use Rattle.std.specs.List.{find}
+use Rattle.std.proofs.Common.{◌<◌, ◌≤◌, ◌^◌, ◌++◌, zero, suc, arith, ◌≡◌, ℕ, Bool, true, false, List, [], ◌∷◌, map, refl, sym, ap, ◌∙◌, subst}
+use Rattle.std.specs.Prelude.{◌||◌, ◌&&◌, nat_lt, ◌==◌, not, cond, Option, Some}
+use Rattle.std.proofs.lemmas.Bool.{false≢true}
+use Rattle.std.proofs.lemmas.Bool.Decides.{nat_tests}
+use Rattle.std.proofs.lemmas.List.Folds.{list_any-append}
+use Rattle.std.proofs.lemmas.Map.Views.{any-filter_same}
+use Rattle.std.proofs.lemmas.Nat.Bits.{bit_at_above}
+use Rattle.cq_regs.proofs.RingLaws.{has_slot, rung-has_slot}
+use Rattle.std.specs.List.{filter, list_any, find}
 use Rattle.std.specs.Option.{option_map_or}
 use Rattle.std.proofs.lemmas.Bool.{eqb-true}
 use Rattle.cq_regs.specs.declared.slots.Progress.{Progress}
-use Rattle.cq_regs.specs.declared.slots.Progress.TheVariants.{Idle}
+use Rattle.cq_regs.specs.declared.slots.Progress.TheVariants.{Idle, Rung, Named, Sent, Ready, Active}
 use Rattle.cq_regs.specs.declared.slots.Ringed.{Ringed}
-use Rattle.cq_regs.specs.Slots.{has_bit, next, readied, moved_at, readied_by, advanced, made_ready, without, progress_of}
+use Rattle.cq_regs.specs.Slots.{IsRing, is_rung, first_slots, newly_rung, rings, rung, has_bit, next, readied, moved_at, readied_by, advanced, made_ready, without, progress_of}
 
 progress_first : (b : Bool) (r : Ringed) (rest : Option Ringed)
     → option_map_or (λ r. r.progress) (cond b (Some r) rest) Idle ≡ cond b r.progress (option_map_or (λ r. r.progress) rest Idle)
@@ -82,3 +88,76 @@ progress_without [] slot other = both_idle (other == slot)
 progress_without (r ∷ ring) slot other =
     left_first (r.slot == slot) (r.slot == other) r ring slot other refl refl (progress_without ring slot other)
     ∙ ap (λ p. cond (other == slot) Idle p) (sym (progress_cons r ring other))
+
+regrouped : {A : Type 0} (b has : Bool) (p q t : A) → cond b p (cond has q t) ≡ cond (b || has) (cond b p q) t
+regrouped true has p q t = refl
+regrouped false has p q t = refl
+
+progress_append : (ring more : List Ringed) (slot : ℕ)
+    → progress_of (ring ++ more) slot ≡ cond (has_slot ring slot) (progress_of ring slot) (progress_of more slot)
+progress_append [] more slot = refl
+progress_append (r ∷ ring) more slot =
+    progress_cons r (ring ++ more) slot
+    ∙ ap (λ p. cond (r.slot == slot) r.progress p) (progress_append ring more slot)
+    ∙ regrouped (r.slot == slot) (has_slot ring slot) r.progress (progress_of ring slot) (progress_of more slot)
+    ∙ ap (λ p. cond ((r.slot == slot) || has_slot ring slot) p (progress_of more slot)) (sym (progress_cons r ring slot))
+
+newly_first : (b has : Bool) → cond b Rung (cond has Rung Idle) ≡ cond (b || has) Rung Idle
+newly_first true has = refl
+newly_first false has = refl
+
+progress_new : (slots : List ℕ) (slot : ℕ) → progress_of (map newly_rung slots) slot ≡ cond (list_any (λ k. k == slot) slots) Rung Idle
+progress_new [] slot = refl
+progress_new (k ∷ slots) slot =
+    progress_cons (newly_rung k) (map newly_rung slots) slot
+    ∙ ap (λ p. cond (k == slot) Rung p) (progress_new slots slot)
+    ∙ newly_first (k == slot) (list_any (λ k. k == slot) slots)
+
+first_step : (n slot : ℕ) → (nat_lt slot n || ((n == slot) || false)) ≡ nat_lt slot (suc n)
+first_step n slot = grind (arith, nat_tests)
+
+none_below : (slot : ℕ) → false ≡ nat_lt slot 0
+none_below slot = grind (arith, nat_tests)
+
+among_first : (n slot : ℕ) → list_any (λ k. k == slot) (first_slots n) ≡ nat_lt slot n
+unfolding first_slots
+among_first zero slot = none_below slot
+among_first (suc n) slot =
+    list_any-append (λ k. k == slot) (first_slots n) (n ∷ [])
+    ∙ ap (λ b. b || ((n == slot) || false)) (among_first n slot)
+    ∙ first_step n slot
+
+chosen : (p : ℕ → Bool) (slot : ℕ) → list_any (λ k. k == slot) (filter p (first_slots 32)) ≡ (p slot && nat_lt slot 32)
+chosen p slot =
+    any-filter_same (λ k. k == slot) p (p slot) (λ k same. ap p (eqb-true k slot same)) (first_slots 32)
+    ∙ ap (λ b. p slot && b) (among_first 32 slot)
+
+idle_of : (p : Progress) → is_rung p ≡ false → p ≡ Idle
+idle_of Idle e = refl
+idle_of Rung e = absurd (false≢true (sym e))
+idle_of Named e = absurd (false≢true (sym e))
+idle_of Sent e = absurd (false≢true (sym e))
+idle_of Ready e = absurd (false≢true (sym e))
+idle_of Active e = absurd (false≢true (sym e))
+
+rung_case : (has bit within : Bool) (p : Progress) → is_rung p ≡ has → (within ≡ false → bit ≡ false)
+    → cond has p (cond ((bit && not (is_rung p)) && within) Rung Idle) ≡ cond (bit && not (is_rung p)) Rung p
+rung_case true true within p e out = rw e refl
+rung_case true false within p e out = refl
+rung_case false true true p e out = rw e refl
+rung_case false true false p e out = absurd (false≢true (sym (out refl)))
+rung_case false false within p e out = sym (idle_of p e)
+
+past_word : (word slot : ℕ) → word < 2 ^ 32 → nat_lt slot 32 ≡ false → has_bit word slot ≡ false
+past_word word slot fits high =
+    let over : 32 ≤ slot = grind (arith, nat_tests) in
+    rw (bit_at_above word 32 slot fits over) refl
+
+pub progress_rung : (ring : List Ringed) (doorbells slot : ℕ) → IsRing ring → doorbells < 2 ^ 32
+    → progress_of (rung ring doorbells) slot ≡ cond (rings ring doorbells slot) Rung (progress_of ring slot)
+progress_rung ring doorbells slot h fits =
+    progress_append ring (map newly_rung (filter (rings ring doorbells) (first_slots 32))) slot
+    ∙ ap (λ p. cond (has_slot ring slot) (progress_of ring slot) p)
+    (progress_new (filter (rings ring doorbells) (first_slots 32)) slot ∙ ap (λ b. cond b Rung Idle) (chosen (rings ring doorbells) slot))
+    ∙ rung_case (has_slot ring slot) (has_bit doorbells slot) (nat_lt slot 32) (progress_of ring slot) (rung-has_slot ring slot h.started)
+    (past_word doorbells slot fits)

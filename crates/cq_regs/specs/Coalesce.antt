@@ -1,8 +1,7 @@
 -- Interrupt coalescing: a counter of the tasks that completed without a notice of their own, and a timer that runs while
 -- it is not 0 (host interface annex of JESD84-B51; CQHCI_IC of drivers/mmc/host/cqhci.h).
-use Rattle.std.specs.Prelude.{ℕ, ◌+◌, ◌*◌, ◌^◌, ◌==◌, nat_le, ◌&&◌, Bool, not, if◌then◌else◌}
+use Rattle.std.specs.Prelude.{ℕ, ◌+◌, ◌*◌, ◌^◌, ◌==◌, nat_le, ◌&&◌, Bool, not, if◌then◌else◌, min}
 use Rattle.std.specs.Int.{from_bool}
-use Rattle.std.proofs.Common.{min}
 use Rattle.cq_words.specs.Fields.{field_of}
 use Rattle.cq_regs.specs.declared.coalesce.Coalescing.{Coalescing}
 use Rattle.cq_regs.specs.Slots.{has_bit}

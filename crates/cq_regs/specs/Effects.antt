@@ -5,14 +5,14 @@ use Rattle.std.specs.Int.{bit_at, from_bool}
 use Rattle.std.specs.Int.RustNames.{bit_and, bit_or}
 use Rattle.cq_regs.specs.declared.coalesce.Coalescing.{Coalescing}
 use Rattle.cq_regs.specs.declared.slots.Progress.{Progress}
-use Rattle.cq_regs.specs.declared.slots.Progress.TheVariants.{Ready}
+use Rattle.cq_regs.specs.declared.slots.Progress.TheVariants.{Ready, Rung}
 use Rattle.cq_regs.specs.declared.table.Register.{Register}
 use Rattle.cq_regs.specs.declared.table.Register.TheVariants.{Version, Capabilities, Configuration, Control, InterruptStatus, InterruptStatusEnable, InterruptSignalEnable, InterruptCoalescing, ListBase, ListBaseUpper, Doorbell, CompletionNotification, DeviceQueueStatus, DevicePendingTasks, TaskClear, SendStatusConfiguration1, SendStatusConfiguration2, DirectCommandResponse, ResponseErrorMask, TaskErrorInformation, CommandResponseIndex, CommandResponseArgument}
 use Rattle.cq_regs.specs.declared.table.Access.{Access}
 use Rattle.cq_regs.specs.declared.table.Access.TheVariants.{ReadOnly, Stored, OneClears, Acts}
 use Rattle.cq_regs.specs.declared.table.Row.{Row}
 use Rattle.cq_regs.specs.State.{Registers}
-use Rattle.cq_regs.specs.Slots.{has_bit, is_rung, is_sent, progress_of, slots_word, sent_slots, rung, advanced, without, without_slots}
+use Rattle.cq_regs.specs.Slots.{has_bit, is_rung, is_sent, progress_of, slots_word, sent_slots, rung, advanced, without, without_slots, Moves}
 use Rattle.cq_regs.specs.Coalesce.{ic_word, ic_written, counted, ticked, reaches, restarted}
 
 -- at reset: no register has a bit but the version and the response error mask, and no slot is rung
@@ -116,6 +116,13 @@ controlled regs value =
 -- a write of the doorbell: rings slots while the engine is enabled
 abbrev pub belled : Registers → ℕ → Registers
 belled regs value = if has_bit regs.configuration 0 then record regs { ring = rung regs.ring value } else regs
+
+-- a write of the doorbell while the engine is enabled rings the slots of the word that are not rung
+abbrev pub RingsSlots : Registers → Register → ℕ → Registers → Type 0
+RingsSlots old Doorbell value new =
+    has_bit old.configuration 0 ≡ true
+    → Moves old.ring new.ring (λ slot progress. if has_bit value slot && not (is_rung progress) then Rung else progress)
+RingsSlots old _ value new = Unit {0}
 
 -- a write of the task clear: clears the tasks of the word while the engine is halted
 abbrev pub task_cleared : Registers → ℕ → Registers

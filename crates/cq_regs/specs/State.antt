@@ -3,8 +3,8 @@ use Rattle.std.specs.Prelude.{ℕ, Bool, List}
 use Rattle.cq_regs.specs.declared.coalesce.Coalescing.{Coalescing}
 use Rattle.cq_regs.specs.declared.slots.Ringed.{Ringed}
 
--- The interrupt bits, their status enables and their signal enables are IS, ISTE and ISGE. The rung slots are TDBR and
--- DPT, the completed tasks TCN, the queue status DQS.
+-- In the order of CQHCI_CFG, CTL, IS, ISTE, ISGE, IC, TDLBA, TDLBAU, TDBR with DPT, TCN, DQS, SSC1, SSC2, CRDCT, RMEM,
+-- TERRI, CRI and CRA of drivers/mmc/host/cqhci.h; whether the engine has stopped is no register.
 pub record Registers : Type 0 where
   pub configuration : ℕ
   pub halted : Bool

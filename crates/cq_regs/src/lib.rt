@@ -1,5 +1,6 @@
 //! The registers of the host interface (host interface annex of JESD84-B51): what each of them reads, what a write of it
-//! does, and how far the tasks of the 32 slots have come.
+//! does, and how far the tasks of the 32 slots have come. In the Linux driver they are the CQHCI_ offsets of
+//! drivers/mmc/host/cqhci.h.
 #![tactic(auto)]
 
 mod coalesce;

@@ -2,6 +2,8 @@ ghost use Rattle.std.specs.Prelude.{◌≡◌, ◌==◌, ◌<◌, true, not, map
 ghost use Rattle.std.specs.Int.{bit_at, from_bool};
 ghost use Rattle.std.specs.Int.RustNames.{bit_and, bit_or};
 ghost use Rattle.std.specs.Option.{ok_or, option_map, option_map_or};
+ghost use Rattle.cq_regs.specs.declared.table.Access.TheVariants.{Acts};
+ghost use Rattle.cq_regs.specs.declared.table.Register.TheVariants.{Doorbell};
 ghost use Rattle.cq_regs.specs.declared.slots.Progress.TheVariants.{Idle};
 ghost use Rattle.cq_regs.specs.Slots.{has_bit, is_rung, made_ready, next, progress_of, readied, waits, without, Moves};
 ghost use Rattle.cq_regs.specs.Table.{row_at, rows};
@@ -80,7 +82,7 @@ impl Model for Regs {
 }
 
 impl Regs {
-    ghost use Rattle.cq_regs.specs.Effects.{acted, at_reset, belled, cleared, completed, controlled, counted_in, moved_on, noticed_if, notified, raised, response_error, stored, task_cleared, ticked_in, value_of, written, ShowsSlots};
+    ghost use Rattle.cq_regs.specs.Effects.{acted, at_reset, belled, cleared, completed, controlled, counted_in, moved_on, noticed_if, notified, raised, response_error, stored, task_cleared, ticked_in, value_of, written, RingsSlots, ShowsSlots};
 
     /// The registers at reset.
     pub fn new() -> Regs
@@ -139,6 +141,7 @@ impl Regs {
     pub fn write(&mut self, offset: u8, value: u32) -> Result<(), NoRegister>
         ensures answer { result ≡ ok_or (option_map (λ _. tt) (row_at offset)) (record {}) }
         ensures after { self.new ≡ option_map_or (λ row. written self.old row value) (row_at offset) self.old }
+        ensures rings { IfSome (row_at offset) (λ row. row.access ≡ Acts → RingsSlots self.old row.register value self.new) }
     {
         match row_at(offset) {
             Some(row) => {
@@ -291,7 +294,8 @@ impl Regs {
 
     // A write by the table.
     fn put(&mut self, row: Row, value: u32)
-        ensures { self.new ≡ written self.old row value }
+        ensures after { self.new ≡ written self.old row value }
+        ensures rings { row.access ≡ Acts → RingsSlots self.old row.register value self.new }
     {
         match row.access {
             Access::ReadOnly => {}
@@ -323,7 +327,8 @@ impl Regs {
     }
 
     fn act(&mut self, register: Register, value: u32)
-        ensures { self.new ≡ acted self.old register value }
+        ensures after { self.new ≡ acted self.old register value }
+        ensures rings { RingsSlots self.old register value self.new }
     {
         match register {
             Register::Control => self.control(value),
@@ -356,7 +361,8 @@ impl Regs {
     }
 
     fn ring_doorbell(&mut self, value: u32)
-        ensures { self.new ≡ belled self.old value }
+        ensures after { self.new ≡ belled self.old value }
+        ensures rings { RingsSlots self.old Doorbell value self.new }
     {
         if is_set(self.configuration, 0) {
             self.ring.ring(value);

@@ -1,8 +1,8 @@
-ghost use Rattle.std.specs.Prelude.{◌≡◌, ℕ, ◌==◌, ◌<◌, ◌^◌, true, [], IsTrue, IfSome, if◌then◌else◌, slice_get};
+ghost use Rattle.std.specs.Prelude.{◌≡◌, ℕ, ◌==◌, ◌&&◌, not, ◌<◌, ◌^◌, true, [], IsTrue, IfSome, if◌then◌else◌, slice_get};
 ghost use Rattle.std.specs.Int.{bit_at, from_bool};
 ghost use Rattle.std.specs.List.{All, find};
 ghost use Rattle.std.specs.Option.{option_map};
-ghost use Rattle.cq_regs.specs.declared.slots.Progress.TheVariants.{Idle};
+ghost use Rattle.cq_regs.specs.declared.slots.Progress.TheVariants.{Idle, Rung};
 ghost use Rattle.cq_regs.specs.Slots.{advanced, has_bit, is_rung, is_sent, made_ready, moved_at, newly_rung, next, progress_of, readied, readied_by, rung, sent_slots, slots_word, waits, with_first, without, without_slots, AreNotRung, IsRing, Moves};
 
 use arrayvec::ArrayVec;
@@ -169,7 +169,8 @@ impl Ring {
 
     /// Rings the slots of a word that are not rung, in slot order.
     pub(crate) fn ring(&mut self, doorbells: u32)
-        ensures { self.new ≡ rung self.old doorbells }
+        ensures after { self.new ≡ rung self.old doorbells }
+        ensures slots { Moves self.old self.new (λ slot progress. if has_bit doorbells slot && not (is_rung progress) then Rung else progress) }
     {
         let anew = doorbells & !self.word();
         ring_slots(&mut self.slots, anew);
