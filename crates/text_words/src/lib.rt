@@ -9,3 +9,6 @@ mod words;
 pub use digits::{read_hex_bytes, read_hex_word};
 pub use numbers::{read_decimal, read_decimal_in, read_hex_byte};
 pub use words::{Words, split_once};
+
+#[cfg(test)]
+mod tests;
