@@ -100,6 +100,14 @@ one_out e s (line ∷ lines) zero d order below here = rw (here, none_out (is_of
 one_out e s (line ∷ lines) (suc k) d order below here =
     rw (first_is_not e s line lines k d order.0 (omega arith) here) (ap (λ rest. line ∷ rest) (one_out e s lines k d order.1 (omega arith) here))
 
+-- the only line of a sector in an epoch
+pub same_line : (e s : ℕ) (lines : List Line) (k : ℕ) (d : Line) → AreInOrder lines → k < length lines → is_of e s (get_or lines k d) ≡ true → AllByRecursion (λ line. is_of e s line ≡ true → line ≡ get_or lines k d) lines
+same_line e s [] k d order below here = absurd (omega arith)
+same_line e s (line ∷ lines) zero d order below here =
+    (λ _. refl, all_also (λ other. is_of e s other ≡ false) (λ other. is_of e s other ≡ true → other ≡ line) lines (λ other not it. absurd (both_ways (is_of e s other) not it)) (others_are_not e s line lines order.0 here))
+same_line e s (line ∷ lines) (suc k) d order below here =
+    (λ it. absurd (both_ways (is_of e s line) (first_is_not e s line lines k d order.0 (omega arith) here) it), same_line e s lines k d order.1 (omega arith) here)
+
 -- a line found
 
 pub one_found : (e s : ℕ) (lines : List Line) (k : ℕ) (d : Line) → AreInOrder lines → k < length lines → is_of e s (get_or lines k d) ≡ true → find (is_of e s) lines ≡ Some (get_or lines k d)

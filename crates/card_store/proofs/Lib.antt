@@ -1,0 +1,11 @@
+pub mod Segments
+pub mod Epochs
+pub mod Standing
+pub mod Putting
+pub mod Staging
+pub mod Keeping
+pub mod Reading
+pub mod Steps
+pub mod Stagings
+pub mod Placing
+pub mod Turning

@@ -1,0 +1,63 @@
+-- What staging keeps.
+use Rattle.std.specs.Prelude.{◌≡◌, ◌⊎◌, ◌<◌, true, false, [], ◌∷◌, ◌++◌, List, Result, Ok, OnOk, IsErrOf, length}
+use Rattle.std.specs.List.{list_any}
+use Rattle.storage_model.specs.declared.block.Block.{Block}
+use Rattle.storage_model.specs.declared.marks.Put.{Put}
+use Rattle.storage_model.specs.declared.marks.Mark.{Mark}
+use Rattle.storage_model.specs.declared.marks.Mark.TheVariants.{Put as PutMark}
+use Rattle.array_edge.specs.Array.{ArrayState}
+use Rattle.intent_store.specs.Intent.{IntentStands, Known, StoreEnds, shown_by}
+use Rattle.intent_store.specs.declared.ends.StoreEnd.{StoreEnd}
+use Rattle.epoch_cache.specs.Cache.{Cache, IsCache, is_of}
+use Rattle.storage_model.specs.Count.{Later, Rose}
+use Rattle.card_store.specs.declared.ends.StageEnd.{StageEnd}
+use Rattle.card_store.specs.declared.ends.StageEnd.TheVariants.{Flash as StageFlash, PowerLost as StagePowerLost}
+use Rattle.card_store.specs.Stands.{AreWithin, LinesStand}
+
+-- A cache, an intent store and an array.
+pub record Holders : Type 0 where
+  pub cache : Cache
+  pub known : Known
+  pub array : ArrayState
+
+-- they fit together
+pub record Fit (h : Holders) : Type 0 where
+  pub is_cache : IsCache h.cache
+  pub within : AreWithin h.known.sectors h.cache.lines
+  pub stands : IntentStands h.known h.array
+
+-- lines were staged: what the cache and the array stand for is the same
+pub record IsStaged (old new : Holders) : Type 0 where
+  pub fit : Fit new
+  pub sectors : new.known.sectors ≡ old.known.sectors
+  pub last : new.cache.last ≡ old.cache.last
+  pub room : new.cache.room ≡ old.cache.room
+  pub lines : (base : List Block) (pend : List Mark) → LinesStand old.cache (shown_by old.array) base pend → LinesStand new.cache (shown_by new.array) base pend
+
+-- a call that ends well
+abbrev pub well : Result (Unit {0}) StoreEnd
+well = Ok tt
+
+-- stagings that all ended well
+pub record AreStaged (old new : Holders) : Type 0 where
+  pub staged : IsStaged old new
+  pub ends : StoreEnds old.array new.array well
+
+-- a line is free, or the put's sector has one in the last epoch
+abbrev pub HasRoom : Put → Cache → Type 0
+HasRoom put cache = (length cache.lines < cache.room) ⊎ (list_any (is_of cache.last put.sector) cache.lines ≡ true)
+
+-- what the cache and the array stand for has the put at its end
+abbrev pub Places : Put → Cache → ArrayState → Cache → ArrayState → Type 0
+Places put old_cache old_array cache array = (base : List Block) (pend : List Mark) → put.sector < length base
+    → LinesStand old_cache (shown_by old_array) base pend → LinesStand cache (shown_by array) base (pend ++ PutMark put ∷ [])
+
+-- How a staging ends. Counts don't fall. `Flash` is told only where the array failed in this call, `PowerLost` only where
+-- the power was cut in this call or was off.
+pub record StageEnds (old new : ArrayState) (result : Result (Unit {0}) StageEnd) : Type 0 where
+  pub count : new.count ≡ old.count
+  pub faults : Later old.faults new.faults
+  pub cuts : Later old.cuts new.cuts
+  pub ok : OnOk result (new.powered ≡ old.powered)
+  pub flash : IsErrOf result StageFlash → Rose old.faults new.faults × (old.powered ≡ true) × (new.powered ≡ true)
+  pub lost : IsErrOf result StagePowerLost → (Rose old.cuts new.cuts ⊎ (old.powered ≡ false)) × (new.powered ≡ false)

@@ -1,0 +1,125 @@
+// Lines of the cache on their way to the array.
+ghost use Rattle.std.specs.Prelude.{◌≡◌, ◌⊎◌, ◌<◌, ◌≤◌, true, false, [], drop, length, OnOk, OnErr, Ok};
+ghost use Rattle.std.specs.List.{AllByRecursion};
+ghost use Rattle.array_edge.specs.Array.{ArrayState, IsTorn, with_page};
+ghost use Rattle.intent_store.specs.Intent.{IntentStands, IsRefusedOff, StoreEnds, shown_by};
+ghost use Rattle.card_store.specs.Staging.{Fit, HasRoom, IsStaged, Places};
+
+use array_edge::{Array, ArrayEnd};
+use epoch_cache::{EpochCache, Full, Line};
+use intent_store::{Intent, StoreEnd};
+use storage_model::Put;
+
+// Programs the sector of a line, whole where the line says so.
+fn program<A: Array>(line: &Line, intent: &mut Intent, array: &mut A) -> Result<(), StoreEnd>
+    requires sector { line.now.sector < intent.old.sectors }
+    requires stands { IntentStands intent.old (A.state array.old) }
+    ensures stands { IntentStands intent.new (A.state array.new) }
+    ensures sectors { intent.new.sectors ≡ intent.old.sectors }
+    ensures ok { OnOk result (shown_by (A.state array.new) ≡ with_page (shown_by (A.state array.old)) line.now.sector line.now.value) }
+    ensures torn { line.now.whole ≡ false → OnErr result (IsTorn (shown_by (A.state array.old)) line.now.sector line.now.value (shown_by (A.state array.new))) }
+    ensures whole { line.now.whole ≡ true → (shown_by (A.state array.new) ≡ shown_by (A.state array.old)) ⊎ (shown_by (A.state array.new) ≡ with_page (shown_by (A.state array.old)) line.now.sector line.now.value) }
+    ensures ends { StoreEnds (A.state array.old) (A.state array.new) result }
+{
+    if line.whole {
+        intent.program_whole(line.sector, &line.value, array)
+    } else {
+        intent.program(line.sector, &line.value, array)
+    }
+}
+
+// Programs the oldest line and drops it. After an error it stays.
+pub fn stage_oldest<A: Array>(
+    cache: &mut EpochCache,
+    intent: &mut Intent,
+    array: &mut A,
+) -> Result<(), StoreEnd>
+    requires some { 0 < length cache.old.lines }
+    requires fit { Fit (record { cache = cache.old; known = intent.old; array = A.state array.old }) }
+    ensures staged { IsStaged (record { cache = cache.old; known = intent.old; array = A.state array.old }) (record { cache = cache.new; known = intent.new; array = A.state array.new }) }
+    ensures ok { OnOk result (cache.new ≡ record cache.old { lines = drop 1 cache.old.lines }) }
+    ensures err { OnErr result (cache.new ≡ cache.old) }
+    ensures ends { StoreEnds (A.state array.old) (A.state array.new) result }
+{
+    let Some(line) = cache.oldest_line() else {
+        unreachable!()
+    };
+    program(&line, intent, array)?;
+    cache.drop_line();
+    Ok(())
+}
+
+// Stages all lines, the oldest first.
+pub fn stage_all<A: Array>(
+    cache: &mut EpochCache,
+    intent: &mut Intent,
+    array: &mut A,
+) -> Result<(), StoreEnd>
+    requires fit { Fit (record { cache = cache.old; known = intent.old; array = A.state array.old }) }
+    ensures staged { IsStaged (record { cache = cache.old; known = intent.old; array = A.state array.old }) (record { cache = cache.new; known = intent.new; array = A.state array.new }) }
+    ensures ok { OnOk result (cache.new.lines ≡ []) }
+    ensures ends { StoreEnds (A.state array.old) (A.state array.new) result }
+{
+    while cache.oldest_line().is_some() {
+        stage_oldest(cache, intent, array)?;
+    }
+    Ok(())
+}
+
+// Stages all lines of epochs before the last, the oldest first.
+pub fn stage_older<A: Array>(
+    cache: &mut EpochCache,
+    intent: &mut Intent,
+    array: &mut A,
+) -> Result<(), StoreEnd>
+    requires fit { Fit (record { cache = cache.old; known = intent.old; array = A.state array.old }) }
+    ensures staged { IsStaged (record { cache = cache.old; known = intent.old; array = A.state array.old }) (record { cache = cache.new; known = intent.new; array = A.state array.new }) }
+    ensures ok { OnOk result (AllByRecursion (λ line. line.epoch ≡ cache.new.last) cache.new.lines) }
+    ensures ends { StoreEnds (A.state array.old) (A.state array.new) result }
+{
+    while cache.older() {
+        stage_oldest(cache, intent, array)?;
+    }
+    Ok(())
+}
+
+// Puts a value into the cache. Where that is full the oldest line is staged before.
+pub fn place<A: Array>(
+    cache: &mut EpochCache,
+    intent: &mut Intent,
+    put: &Put,
+    array: &mut A,
+) -> Result<(), StoreEnd>
+    requires room { 1 ≤ cache.old.room }
+    requires sector { put.now.sector < intent.old.sectors }
+    requires fit { Fit (record { cache = cache.old; known = intent.old; array = A.state array.old }) }
+    ensures fit { Fit (record { cache = cache.new; known = intent.new; array = A.state array.new }) }
+    ensures sectors { intent.new.sectors ≡ intent.old.sectors }
+    ensures last { cache.new.last ≡ cache.old.last }
+    ensures room { cache.new.room ≡ cache.old.room }
+    ensures ok { OnOk result (Places put.now cache.old (A.state array.old) cache.new (A.state array.new)) }
+    ensures err { OnErr result (IsStaged (record { cache = cache.old; known = intent.old; array = A.state array.old }) (record { cache = cache.new; known = intent.new; array = A.state array.new })) }
+    ensures free { HasRoom put.now cache.old → (result ≡ Ok tt) × (A.state array.new ≡ A.state array.old) }
+    ensures ends { StoreEnds (A.state array.old) (A.state array.new) result }
+{
+    if let Ok(()) = cache.put(put) {
+        return Ok(());
+    }
+    stage_oldest(cache, intent, array)?;
+    match cache.put(put) {
+        Ok(()) => Ok(()),
+        Err(Full) => unreachable!(),
+    }
+}
+
+// Makes what was programmed durable.
+pub fn settle<A: Array>(array: &mut A) -> Result<(), StoreEnd>
+    ensures same { (A.state array.new).told ≡ (A.state array.old).told }
+    ensures ends { StoreEnds (A.state array.old) (A.state array.new) result }
+{
+    match array.settle() {
+        Ok(()) => Ok(()),
+        Err(ArrayEnd::Failed) => Err(StoreEnd::Flash),
+        Err(ArrayEnd::PowerLost) => Err(StoreEnd::PowerLost),
+    }
+}
