@@ -9,3 +9,4 @@ pub mod Steps
 pub mod Stagings
 pub mod Placing
 pub mod Turning
+pub mod Named

@@ -1,13 +1,15 @@
 -- What a store and an array stand for, after a call.
-use Rattle.std.proofs.Common.{◌≡◌, ◌≢◌, ℕ, ◌+◌, ◌<◌, ◌≤◌, inl, inr, Bool, true, false, ◌==◌, ◌||◌, nat_lt, Option, Some, None, MatchOption, List, [], ◌∷◌, ◌++◌, get_or, length, refl, sym, ap, subst, ◌∙◌, arith, get_or-set_same, get_or-set_other, length-append}
+use Rattle.std.proofs.Common.{◌≡◌, ◌≢◌, ℕ, ◌+◌, ◌<◌, ◌≤◌, inl, inr, Bool, true, false, ◌==◌, ◌||◌, if◌then◌else◌, nat_lt, Option, Some, None, MatchOption, List, [], ◌∷◌, ◌++◌, get_or, length, refl, sym, ap, subst, ◌∙◌, arith, get_or-set_same, get_or-set_other, length-append}
 use Rattle.std.specs.Prelude.{option_map, IfSome, Result, Ok, Err, OnOk}
 use Rattle.std.proofs.Math.Bool.{or-false}
 use Rattle.std.proofs.Math.ListN.{set}
-use Rattle.std.proofs.lemmas.Bool.{cases_eq, cases_lt, eq-eqb, ne_eqb, lt-ltb, or_right}
+use Rattle.std.proofs.lemmas.Bool.{cases_Bool, cases_eq, cases_lt, eq-eqb, ne_eqb, lt-ltb, or_right}
 use Rattle.std.proofs.lemmas.List.{get_or_past}
+use Rattle.std.specs.List.{AllByRecursion}
+use Rattle.epoch_cache.specs.declared.line.Line.{Line}
 use Rattle.std.proofs.lemmas.List.Folds.{list_any-append}
 use Rattle.storage_model.proofs.Appends.{bars-append, contents_now-none, puts_at-past}
-use Rattle.storage_model.proofs.Durable.{keep_pend-every, length-keep_base}
+use Rattle.storage_model.proofs.Durable.{bars-keep_pend, keep_pend-every, length-keep_base, puts_at-keep_named, puts_at-keep_other}
 use Rattle.storage_model.specs.Contents.{bars, contents_now, puts_at, sector_at}
 use Rattle.storage_model.specs.Keep.{every_sector, keep_base, keep_pend}
 use Rattle.epoch_cache.specs.Cache.{Cache, IsCache, newest_of, next_epoch}
@@ -182,3 +184,51 @@ opened_stands store array known is stands empty pending latest =
       pending = pending;
       latest = latest;
     }) (opened_lines store.cache array.told known empty stands.told)
+
+-- kept
+
+has_here : (s : ℕ) (marks : List Mark) → bars marks ≡ 0 → has_put s marks ≡ nat_lt 0 (length (puts_at 0 s marks))
+unfolding puts_at
+has_here s [] none = refl
+has_here s (Bar ∷ marks) none = absurd (omega arith)
+has_here s (PutMark put ∷ marks) none = elim (cases_Bool (put.sector == s)) [
+  | inl here ↦ rw here (sym (lt-ltb 0 _ (omega arith)))
+  | inr gone ↦ rw gone (has_here s marks none)
+]
+
+kept_last : (named : ℕ → Bool) (s : ℕ) (pend : List Mark) → nat_lt 0 (length (puts_at 0 s (keep_pend named pend))) ≡ (if named s then false else has_last_put s pend)
+kept_last named s pend = elim (cases_Bool (named s)) [
+  | inl chosen ↦ rw (chosen, puts_at-keep_named named pend s chosen) refl
+  | inr spared ↦ rw (spared, puts_at-keep_other named pend s spared) refl
+]
+
+pub lines_kept : (named : ℕ → Bool) (cache : Cache) (shown : Option (List Block)) (base : List Block) (pend : List Mark) → AllByRecursion (λ line. line.epoch ≡ cache.last) cache.lines → AllByRecursion (λ line. named line.sector ≡ false) cache.lines
+    → LinesStand cache shown base pend → LinesStand cache shown (keep_base named base pend) (keep_pend named pend)
+lines_kept named cache None base pend now spared stands = tt
+lines_kept named cache (Some shown) base pend now spared stands = record { e = 0; is = stands_kept named cache.lines cache.last shown base pend stands.e now spared stands.is }
+
+-- a list of sectors without the named ones
+pub record Spares (named : ℕ → Bool) (old new : List Bool) : Type 0 where
+  pub named_out : (s : ℕ) → named s ≡ true → get_or new s false ≡ false
+  pub others : (s : ℕ) → named s ≡ false → get_or new s false ≡ get_or old s false
+
+says_spared : (named : ℕ → Bool) (old new : List Bool) (has : ℕ → Bool) → Spares named old new → Says old has → Says new (λ s. if named s then false else has s)
+says_spared named old new has spares says = record {
+  each = λ s below. elim (cases_Bool (named s)) [
+    | inl chosen ↦ rw (chosen, spares.named_out s chosen) refl
+    | inr other ↦ rw (other, spares.others s other) (says.each s below)
+  ];
+}
+
+pub turns_kept : (named : ℕ → Bool) (old new : Store) (old_array array : ArrayState) → sectors_of new ≡ sectors_of old → AllByRecursion (λ line. line.epoch ≡ new.cache.last) new.cache.lines → AllByRecursion (λ line. named line.sector ≡ false) new.cache.lines
+    → new.pending ≡ new.latest → Spares named old.latest new.latest
+    → ((base : List Block) (pend : List Mark) → LinesStand old.cache (shown_by old_array) base pend → LinesStand new.cache (shown_by array) base pend) → Turns (kept named) old old_array new array
+turns_kept named old new old_array array sectors now spared same spares lines c stands =
+    let says = says_spared named old.latest new.latest (λ s. has_last_put s c.pend) spares stands.latest in
+    let none = bars-keep_pend named c.pend in
+    record {
+      sectors = sectors ∙ stands.sectors ∙ ap Some (sym (length-keep_base named c.base c.pend));
+      lines = lines_kept named new.cache (shown_by array) c.base c.pend now spared (lines c.base c.pend stands.lines);
+      pending = rw same (record { each = λ s below. says.each s below ∙ sym (has_here s (keep_pend named c.pend) none ∙ kept_last named s c.pend) });
+      latest = record { each = λ s below. says.each s below ∙ sym (ap (λ n. nat_lt 0 (length (puts_at n s (keep_pend named c.pend)))) none ∙ kept_last named s c.pend) };
+    }

@@ -1,4 +1,4 @@
-ghost use Rattle.std.specs.Prelude.{◌≡◌, ◌<◌, true, false, slice_index_or, slice_set, IfOk, length};
+ghost use Rattle.std.specs.Prelude.{◌≡◌, ◌⊎◌, ◌+◌, ◌<◌, ◌≤◌, ℕ, true, false, slice_index_or, slice_set, IfOk, length};
 ghost use Rattle.card_store.specs.Store.{Says, none};
 
 use std::alloc::Global;
@@ -70,5 +70,16 @@ impl SectorSet {
         ensures { self.new ≡ other.now }
     {
         self.has.copy_from_slice(&other.has);
+    }
+
+    /// Takes the `blocks` sectors from `first` on out.
+    pub fn remove_all(&mut self, first: u32, blocks: u16)
+        requires { first + blocks ≤ 65536 }
+        ensures named { (s : ℕ) → first ≤ s → s < first + blocks → slice_index_or self.new s false ≡ false }
+        ensures others { (s : ℕ) → (s < first) ⊎ (first + blocks ≤ s) → slice_index_or self.new s false ≡ slice_index_or self.old s false }
+    {
+        for sector in first..first + u32::from(blocks) {
+            self.remove(sector);
+        }
     }
 }

@@ -1,6 +1,7 @@
 // Lines of the cache on their way to the array.
-ghost use Rattle.std.specs.Prelude.{◌≡◌, ◌⊎◌, ◌<◌, ◌≤◌, true, false, [], drop, length, OnOk, OnErr, Ok};
+ghost use Rattle.std.specs.Prelude.{◌≡◌, ◌⊎◌, ◌<◌, ◌≤◌, true, false, [], drop, length, remove, slice_get, Some, OnOk, OnErr, Ok};
 ghost use Rattle.std.specs.List.{AllByRecursion};
+ghost use Rattle.storage_model.specs.Keep.{is_named};
 ghost use Rattle.array_edge.specs.Array.{ArrayState, IsTorn, with_page};
 ghost use Rattle.intent_store.specs.Intent.{IntentStands, IsRefusedOff, StoreEnds, shown_by};
 ghost use Rattle.card_store.specs.Staging.{Fit, HasRoom, IsStaged, Places};
@@ -81,6 +82,59 @@ pub fn stage_older<A: Array>(
         stage_oldest(cache, intent, array)?;
     }
     Ok(())
+}
+
+// Programs line `k`, where all lines are of the last epoch, and drops it. After an error it stays.
+fn stage_at<A: Array>(
+    k: u16,
+    line: &Line,
+    cache: &mut EpochCache,
+    intent: &mut Intent,
+    array: &mut A,
+) -> Result<(), StoreEnd>
+    requires line { slice_get cache.old.lines k ≡ Some line.now }
+    requires now { AllByRecursion (λ line. line.epoch ≡ cache.old.last) cache.old.lines }
+    requires fit { Fit (record { cache = cache.old; known = intent.old; array = A.state array.old }) }
+    ensures staged { IsStaged (record { cache = cache.old; known = intent.old; array = A.state array.old }) (record { cache = cache.new; known = intent.new; array = A.state array.new }) }
+    ensures ok { OnOk result (cache.new ≡ record cache.old { lines = remove cache.old.lines k }) }
+    ensures err { OnErr result (cache.new ≡ cache.old) }
+    ensures ends { StoreEnds (A.state array.old) (A.state array.new) result }
+{
+    program(line, intent, array)?;
+    cache.drop_at(line.sector);
+    Ok(())
+}
+
+// Stages the lines of the `blocks` sectors from `first` on, in the order in which they came to be.
+pub fn stage_named<A: Array>(
+    first: u32,
+    blocks: u16,
+    cache: &mut EpochCache,
+    intent: &mut Intent,
+    array: &mut A,
+) -> Result<(), StoreEnd>
+    requires now { AllByRecursion (λ line. line.epoch ≡ cache.old.last) cache.old.lines }
+    requires fit { Fit (record { cache = cache.old; known = intent.old; array = A.state array.old }) }
+    ensures staged { IsStaged (record { cache = cache.old; known = intent.old; array = A.state array.old }) (record { cache = cache.new; known = intent.new; array = A.state array.new }) }
+    ensures now { OnOk result (AllByRecursion (λ line. line.epoch ≡ cache.new.last) cache.new.lines) }
+    ensures ok { OnOk result (AllByRecursion (λ line. is_named first blocks line.sector ≡ false) cache.new.lines) }
+    ensures ends { StoreEnds (A.state array.old) (A.state array.new) result }
+{
+    let mut k = 0;
+    while let Some(line) = cache.oldest_at(k) {
+        if is_in(line.sector, first, blocks) {
+            stage_at(k, &line, cache, intent, array)?;
+        } else {
+            k += 1;
+        }
+    }
+    Ok(())
+}
+
+fn is_in(sector: u32, first: u32, blocks: u16) -> bool
+    ensures { result ≡ is_named first blocks sector }
+{
+    first <= sector && u64::from(sector) < u64::from(first) + u64::from(blocks)
 }
 
 // Puts a value into the cache. Where that is full the oldest line is staged before.

@@ -114,6 +114,7 @@ impl EpochCache {
     pub fn oldest_at(&self, k: u16) -> Option<Line>
         ensures line { result ≡ slice_get self.now.lines k }
         ensures none { IsNone result ↔ (length self.now.lines ≤ k) }
+        ensures below { IsSome result → k < 65535 }
     {
         if k < self.table.len() {
             Some(*self.table.at(k))
