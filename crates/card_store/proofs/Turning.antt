@@ -1,9 +1,9 @@
 -- What a store and an array stand for, after a call.
-use Rattle.std.proofs.Common.{◌≡◌, ◌≢◌, ℕ, ◌+◌, ◌<◌, ◌≤◌, inl, inr, Bool, true, false, ◌==◌, ◌||◌, if◌then◌else◌, nat_lt, Option, Some, None, MatchOption, List, [], ◌∷◌, ◌++◌, get_or, length, refl, sym, ap, subst, ◌∙◌, arith, get_or-set_same, get_or-set_other, length-append}
+use Rattle.std.proofs.Common.{◌≡◌, ◌≢◌, ℕ, ◌+◌, ◌<◌, ◌≤◌, inl, inr, Bool, true, false, ◌==◌, ◌||◌, if◌then◌else◌, nat_lt, nat_le, ◌⊎◌, Option, Some, None, MatchOption, List, [], ◌∷◌, ◌++◌, get_or, length, refl, sym, ap, subst, ◌∙◌, arith, get_or-set_same, get_or-set_other, length-append}
 use Rattle.std.specs.Prelude.{option_map, IfSome, Result, Ok, Err, OnOk}
 use Rattle.std.proofs.Math.Bool.{or-false}
 use Rattle.std.proofs.Math.ListN.{set}
-use Rattle.std.proofs.lemmas.Bool.{cases_Bool, cases_eq, cases_lt, eq-eqb, ne_eqb, lt-ltb, or_right}
+use Rattle.std.proofs.lemmas.Bool.{and_parts, leb-true, leb-false, ltb-true, ltb-false, cases_Bool, cases_eq, cases_lt, eq-eqb, ne_eqb, lt-ltb, or_right}
 use Rattle.std.proofs.lemmas.List.{get_or_past}
 use Rattle.std.specs.List.{AllByRecursion}
 use Rattle.epoch_cache.specs.declared.line.Line.{Line}
@@ -11,7 +11,7 @@ use Rattle.std.proofs.lemmas.List.Folds.{list_any-append}
 use Rattle.storage_model.proofs.Appends.{bars-append, contents_now-none, puts_at-past}
 use Rattle.storage_model.proofs.Durable.{bars-keep_pend, keep_pend-every, length-keep_base, puts_at-keep_named, puts_at-keep_other}
 use Rattle.storage_model.specs.Contents.{bars, contents_now, puts_at, sector_at}
-use Rattle.storage_model.specs.Keep.{every_sector, keep_base, keep_pend}
+use Rattle.storage_model.specs.Keep.{every_sector, is_named, keep_base, keep_pend}
 use Rattle.epoch_cache.specs.Cache.{Cache, IsCache, newest_of, next_epoch}
 use Rattle.card_store.proofs.Epochs.{before_epoch-now, puts_at-bar_last}
 use Rattle.image_form.proofs.Images.{length-shown}
@@ -232,3 +232,13 @@ turns_kept named old new old_array array sectors now spared same spares lines c 
       pending = rw same (record { each = λ s below. says.each s below ∙ sym (has_here s (keep_pend named c.pend) none ∙ kept_last named s c.pend) });
       latest = record { each = λ s below. says.each s below ∙ sym (ap (λ n. nat_lt 0 (length (puts_at n s (keep_pend named c.pend)))) none ∙ kept_last named s c.pend) };
     }
+
+pub spares_named : (first blocks : ℕ) (old new : List Bool) → ((s : ℕ) → first ≤ s → s < first + blocks → get_or new s false ≡ false) → ((s : ℕ) → (s < first) ⊎ (first + blocks ≤ s) → get_or new s false ≡ get_or old s false)
+    → Spares (is_named first blocks) old new
+spares_named first blocks old new out stay = record {
+  named_out = λ s chosen. let parts = and_parts (nat_le first s) (nat_lt s (first + blocks)) chosen in out s (leb-true first s parts.0) (ltb-true s (first + blocks) parts.1);
+  others = λ s spared. elim (cases_Bool (nat_le first s)) [
+    | inl from ↦ stay s (inr (ltb-false s (first + blocks) (rw from at spared)))
+    | inr before ↦ stay s (inl (leb-false first s before))
+  ];
+}

@@ -39,6 +39,10 @@ sectors_of store = option_map (λ known. known.sectors) store.known
 abbrev pub HasSector : Store → ℕ → Type 0
 HasSector store s = MatchOption (sectors_of store) ⊥ (λ sectors. s < sectors)
 
+-- sectors from `first` on, as many as `blocks`, of the image that is open
+abbrev pub HasSectors : Store → ℕ → ℕ → Type 0
+HasSectors store first blocks = MatchOption (sectors_of store) ⊥ (λ sectors. first + blocks ≤ sectors)
+
 -- contents, and marks over them
 pub record Contents : Type 0 where
   pub base : List Block

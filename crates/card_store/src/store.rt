@@ -7,11 +7,11 @@ ghost use Rattle.intent_store.specs.declared.ends.StartEnd.TheVariants.{BadImage
 ghost use Rattle.card_store.specs.declared.ends.StageEnd.TheVariants.{Empty};
 ghost use Rattle.epoch_cache.specs.Cache.{newest_of, next_epoch};
 ghost use Rattle.card_store.specs.Staging.{HasRoom, StageEnds};
-ghost use Rattle.card_store.specs.Store.{Contents, HasSector, IsOpen, IsSameStore, Reads, Stands, Store, Turns, has_put, kept, same, sectors_of, with_bar, with_put};
+ghost use Rattle.card_store.specs.Store.{Contents, HasSector, HasSectors, IsOpen, IsSameStore, Reads, Stands, Store, Turns, has_put, kept, same, sectors_of, with_bar, with_put};
 
 use crate::StageEnd;
 use crate::sector_set::SectorSet;
-use crate::stage::{place, settle, stage_all, stage_oldest};
+use crate::stage::{place, settle, stage_all, stage_named, stage_older, stage_oldest};
 use array_edge::Array;
 use epoch_cache::EpochCache;
 use intent_store::{Intent, StartEnd, StoreEnd};
@@ -194,5 +194,27 @@ impl CardStore {
             Err(StoreEnd::Flash) => Err(StageEnd::Flash),
             Err(StoreEnd::PowerLost) => Err(StageEnd::PowerLost),
         }
+    }
+
+    /// Makes durable what older epochs hold, and of the last the `blocks` sectors from `first` on: the lines of older epochs
+    /// are staged, then those of the sectors, in the order in which they came to be (JESD84-B51, forced and reliable write).
+    pub fn keep<A: Array>(&mut self, first: u32, blocks: u16, array: &mut A) -> Result<(), StoreEnd>
+        requires open { IsOpen self.old (A.state array.old) }
+        requires sectors { HasSectors self.old first blocks }
+        ensures open { IsOpen self.new (A.state array.new) }
+        ensures store { IsSameStore self.old self.new }
+        ensures ok { OnOk result (Turns (kept (is_named first blocks)) self.old (A.state array.old) self.new (A.state array.new)) }
+        ensures err { OnErr result (Turns same self.old (A.state array.old) self.new (A.state array.new)) }
+        ensures ends { StoreEnds (A.state array.old) (A.state array.new) result }
+    {
+        let Some(intent) = &mut self.intent else {
+            unreachable!()
+        };
+        stage_older(&mut self.cache, intent, array)?;
+        stage_named(first, blocks, &mut self.cache, intent, array)?;
+        settle(array)?;
+        self.latest.remove_all(first, blocks);
+        self.pending.copy_from(&self.latest);
+        Ok(())
     }
 }
