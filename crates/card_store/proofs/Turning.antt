@@ -11,6 +11,7 @@ use Rattle.std.proofs.lemmas.List.Folds.{list_any-append}
 use Rattle.storage_model.proofs.Appends.{bars-append, contents_now-none, puts_at-past}
 use Rattle.storage_model.proofs.Durable.{bars-keep_pend, keep_pend-every, length-keep_base, puts_at-keep_named, puts_at-keep_other}
 use Rattle.storage_model.specs.Contents.{bars, contents_now, puts_at, sector_at}
+use Rattle.storage_model.specs.Left.{is_left}
 use Rattle.storage_model.specs.Keep.{every_sector, is_named, keep_base, keep_pend}
 use Rattle.epoch_cache.specs.Cache.{Cache, IsCache, newest_of, next_epoch}
 use Rattle.card_store.proofs.Epochs.{before_epoch-now, puts_at-bar_last}
@@ -18,7 +19,7 @@ use Rattle.image_form.proofs.Images.{length-shown}
 use Rattle.image_form.specs.Image.{shown}
 use Rattle.card_store.proofs.Keeping.{stands_kept}
 use Rattle.card_store.proofs.Reading.{read_newest, read_shown}
-use Rattle.card_store.proofs.Standing.{stands_bar}
+use Rattle.card_store.proofs.Standing.{stands_bar, stands_left}
 use Rattle.storage_model.specs.declared.block.Block.{Block}
 use Rattle.storage_model.specs.declared.marks.Put.{Put}
 use Rattle.storage_model.specs.declared.marks.Mark.{Mark}
@@ -242,3 +243,9 @@ spares_named first blocks old new out stay = record {
     | inr before ↦ stay s (inl (leb-false first s before))
   ];
 }
+
+-- what is shown may be left
+
+pub lines_left : (cache : Cache) (shown : Option (List Block)) (base : List Block) (pend : List Mark) → LinesStand cache shown base pend → IfSome shown (λ sectors. is_left base pend sectors ≡ true)
+lines_left cache None base pend stands = tt
+lines_left cache (Some shown) base pend stands = stands_left cache.lines cache.last shown base pend stands.e stands.is

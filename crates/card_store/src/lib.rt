@@ -9,3 +9,6 @@ mod store;
 
 pub use ends::StageEnd;
 pub use store::CardStore;
+
+#[cfg(test)]
+mod tests;

@@ -1,5 +1,6 @@
 ghost use Rattle.std.specs.Prelude.{◌≡◌, ◌↔◌, ◌⊎◌, ◌<◌, ◌≤◌, true, [], drop, length, slice_index_or, Option, Some, None, IfSome, MatchOption, IsErrOf, IsSome, IfOk, OnOk, OnErr, Ok, option_map};
 ghost use Rattle.storage_model.specs.Contents.{contents_now, sector_at};
+ghost use Rattle.storage_model.specs.Left.{is_left};
 ghost use Rattle.storage_model.specs.Keep.{every_sector, is_named};
 ghost use Rattle.array_edge.specs.Array.{ArrayState};
 ghost use Rattle.intent_store.specs.Intent.{IntentStands, IsNoImage, ShowsImage, StartEnds, StoreEnds, shown_by};
@@ -66,7 +67,8 @@ impl CardStore {
     /// Whether a put on the sector is pending: a loss of power may leave the sector otherwise than it reads.
     pub fn pending(&self, sector: u32) -> bool
         requires { HasSector self.now sector }
-        ensures { (c : Contents) → (array : ArrayState) → Stands c self.now array → result ≡ has_put sector c.pend }
+        ensures value { (c : Contents) → (array : ArrayState) → Stands c self.now array → result ≡ has_put sector c.pend }
+        ensures left { (c : Contents) → (array : ArrayState) → Stands c self.now array → IfSome (shown_by array) (λ shown. is_left c.base c.pend shown ≡ true) }
     {
         prove!(self.sectors() <= 65536);
         self.pending.has(sector)

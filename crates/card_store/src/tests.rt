@@ -1,0 +1,54 @@
+ghost use Rattle.std.specs.Prelude.{◌≡◌, IfOk, length};
+
+use crate::{CardStore, StageEnd};
+use array_edge::MemArray;
+use image_form::{Gate, Super, write_gate, write_super};
+use std::alloc::Global;
+use std::test::Fail;
+use storage_model::{ArrayHits, Block, BlockList, NoMemory, Put};
+
+// An image of 8 zero sectors.
+fn image(alloc: Global) -> Result<MemArray, NoMemory>
+    ensures { IfOk result (λ array. length array.pages ≡ 16) }
+{
+    let mut pages = BlockList::from_vec(vec![in alloc; Block([0; 512]); 16]?);
+    let first = Super {
+        version: 1,
+        sectors: 8,
+    };
+    pages.set(0, write_super(first));
+    pages.set(1, write_gate(Gate::Shut));
+    Ok(MemArray::over(pages, ArrayHits::new(alloc)))
+}
+
+fn filled(sector: u32, byte: u8) -> Put
+    ensures { result.sector ≡ sector }
+{
+    Put {
+        sector,
+        value: Block([byte; 512]),
+        reliable: false,
+    }
+}
+
+#[test]
+fn full_cache_stages_the_oldest_line(rt: HostRuntime) -> Result<(), Fail> {
+    let mut array = image(rt.alloc())?;
+    let mut store = CardStore::start(rt.alloc(), 2)?;
+    assert_eq!(rt; store.boot(&mut array), Ok(()));
+    assert!(rt; store.sectors() == 8);
+    assert_eq!(rt; store.put(&filled(0, 0xaa), &mut array), Ok(()));
+    store.bar();
+    assert_eq!(rt; store.put(&filled(1, 0xbb), &mut array), Ok(()));
+    assert_eq!(rt; store.put(&filled(2, 0xcc), &mut array), Ok(()));
+    let mut block = Block([0; 512]);
+    assert_eq!(rt; store.read(0, &mut block, &mut array), Ok(()));
+    assert_eq!(rt; block, Block([0xaa; 512]));
+    assert!(rt; store.pending(0));
+    assert_eq!(rt; store.keep(1, 1, &mut array), Ok(()));
+    assert!(rt; !store.pending(1));
+    assert_eq!(rt; store.flush(&mut array), Ok(()));
+    assert!(rt; !store.pending(2));
+    assert_eq!(rt; store.stage_one(&mut array), Err(StageEnd::Empty));
+    Ok(())
+}
