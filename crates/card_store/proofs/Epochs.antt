@@ -1,15 +1,14 @@
 -- The contents from epoch to epoch.
-use Rattle.std.proofs.Common.{◌≡◌, ℕ, ◌+◌, ◌<◌, ◌≤◌, inl, inr, suc, zero, nat_lt, true, false, ◌==◌, List, [], ◌∷◌, ◌++◌, length, map, filter, refl, sym, ap, ◌∙◌, arith}
+use Rattle.std.proofs.Common.{◌≡◌, ℕ, ◌+◌, ◌<◌, ◌≤◌, inl, inr, suc, zero, nat_lt, ◌==◌, List, [], ◌∷◌, ◌++◌, length, refl, sym, ◌∙◌, arith}
 use Rattle.std.proofs.Math.ListN.{length-set}
-use Rattle.std.proofs.lemmas.Bool.{cases_Bool, cases_lt, lt-ltb, le-ltb, eq-eqb, ne_eqb}
+use Rattle.std.proofs.lemmas.Bool.{cases_Bool, cases_lt, lt-ltb, eq-eqb, ne_eqb}
 use Rattle.std.proofs.lemmas.List.{append-nil}
 use Rattle.storage_model.proofs.Appends.{before_epoch-past, puts_at-append, puts_if-append}
 use Rattle.storage_model.proofs.Applied.{sector_put_same, sector_put_other}
 use Rattle.storage_model.proofs.Latest.{last_value}
 use Rattle.storage_model.proofs.Scans.{early, early_none, own, own_none}
-use Rattle.storage_model.specs.Contents.{EpochPut, bars, before_epoch, contents_now, numbered, put_all, put_on, puts_at, sector_at}
+use Rattle.storage_model.specs.Contents.{bars, before_epoch, contents_now, numbered, put_all, put_on, puts_at, sector_at}
 use Rattle.storage_model.specs.declared.block.Block.{Block}
-use Rattle.storage_model.specs.declared.marks.Put.{Put}
 use Rattle.storage_model.specs.declared.marks.Mark.{Mark}
 use Rattle.storage_model.specs.declared.marks.Mark.TheVariants.{Put as PutMark, Bar}
 

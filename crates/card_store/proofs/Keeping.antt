@@ -1,18 +1,17 @@
 -- Once the lines of older epochs and of the named sectors are programmed, the others stand for the marks that stay.
-use Rattle.std.proofs.Common.{◌≡◌, ℕ, ◌+◌, ◌-◌, ◌<◌, ◌≤◌, Bool, true, false, List, [], ◌∷◌, ◌++◌, length, refl, sym, ap, subst, ◌∙◌, arith}
+use Rattle.std.proofs.Common.{◌≡◌, ℕ, ◌+◌, ◌-◌, ◌<◌, ◌≤◌, Bool, false, List, length, sym, ap, subst, ◌∙◌, arith}
 use Rattle.std.specs.List.{AllByRecursion, list_any}
 use Rattle.storage_model.proofs.Appends.{before_epoch-first}
 use Rattle.storage_model.proofs.Durable.{bars-keep_pend, contents_now-keep, keep_base-other, length-keep_base, puts_at-keep_other}
-use Rattle.storage_model.specs.Contents.{bars, before_epoch, contents_now, puts_at, sector_at}
+use Rattle.storage_model.specs.Contents.{bars, before_epoch, puts_at, sector_at}
 use Rattle.storage_model.specs.Keep.{keep_base, keep_pend}
 use Rattle.storage_model.specs.declared.block.Block.{Block}
-use Rattle.storage_model.specs.declared.marks.Put.{Put}
 use Rattle.storage_model.specs.declared.marks.Mark.{Mark}
 use Rattle.epoch_cache.specs.declared.line.Line.{Line}
 use Rattle.card_store.proofs.Epochs.{before_epoch-now}
 use Rattle.card_store.proofs.Putting.{none_other}
 use Rattle.card_store.proofs.Standing.{all_also, all_both, is_at-true, is_at-from, later_epoch}
-use Rattle.card_store.specs.Stands.{LineStands, StandsIn, IsShown, is_at}
+use Rattle.card_store.specs.Stands.{LineStands, StandsIn, is_at}
 
 -- a line of the last epoch that stays
 kept_stands : (named : ℕ → Bool) (base : List Block) (pend : List Mark) (last : ℕ) (shown : List Block) (line : Line) → LineStands base pend last shown (bars pend) line → line.epoch ≡ last → named line.sector ≡ false

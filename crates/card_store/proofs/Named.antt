@@ -1,11 +1,11 @@
 -- A line of the last epoch, where all lines are of it.
-use Rattle.std.proofs.Common.{◌≡◌, ◌≢◌, ℕ, ◌+◌, ◌<◌, ◌≤◌, suc, zero, Bool, true, false, not, Some, List, [], ◌∷◌, ◌++◌, take, filter, get_or, remove, length, slice_get, refl, sym, ap, subst, ◌∙◌, arith}
+use Rattle.std.proofs.Common.{◌≡◌, ℕ, ◌+◌, ◌<◌, ◌≤◌, suc, zero, Bool, true, false, not, Some, List, [], ◌∷◌, take, filter, get_or, remove, length, slice_get, refl, ap, subst, arith}
 use Rattle.std.proofs.lemmas.List.{take_more}
 use Rattle.std.proofs.lemmas.Option.{slice_get_within, get_or_from_slice_get}
 use Rattle.std.specs.List.{AllByRecursion, list_any}
 use Rattle.std.proofs.lemmas.List.Folds.{list_any_at}
 use Rattle.epoch_cache.specs.declared.line.Line.{Line}
-use Rattle.epoch_cache.specs.Cache.{AreInOrder, Cache, IsCache, is_of}
+use Rattle.epoch_cache.specs.Cache.{AreInOrder, is_of}
 use Rattle.epoch_cache.proofs.CacheSteps.{is_of-from, one_out}
 use Rattle.epoch_cache.proofs.TableSteps.{all_at, all_more}
 use Rattle.card_store.proofs.Standing.{all_also}

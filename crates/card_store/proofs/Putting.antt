@@ -1,6 +1,6 @@
 -- A put goes into its sector's line of the last epoch, or into a new one.
-use Rattle.std.proofs.Common.{◌≡◌, ◌≢◌, ℕ, ◌+◌, ◌<◌, ◌≤◌, ◌⊎◌, suc, zero, inl, inr, Bool, true, false, ◌==◌, ◌&&◌, ◌||◌, if◌then◌else◌, List, [], ◌∷◌, ◌++◌, length, map, refl, sym, ap, subst, ◌∙◌, arith}
-use Rattle.std.proofs.lemmas.Bool.{cases_Bool, cases_lt, cases_eq, eqb-true, eq-eqb, ne_eqb, both_ways, or_left, or_right, or_parts, false_from_ne_true}
+use Rattle.std.proofs.Common.{◌≡◌, ◌≢◌, ℕ, ◌+◌, ◌<◌, ◌≤◌, inl, inr, Bool, true, false, ◌||◌, if◌then◌else◌, List, [], ◌∷◌, ◌++◌, length, map, refl, sym, ap, subst, ◌∙◌, arith}
+use Rattle.std.proofs.lemmas.Bool.{cases_Bool, cases_lt, cases_eq, eq-eqb, ne_eqb, both_ways, or_left, or_right, or_parts, false_from_ne_true}
 use Rattle.std.proofs.lemmas.List.Folds.{list_any-append}
 use Rattle.std.specs.List.{AllByRecursion, list_any}
 use Rattle.storage_model.proofs.Appends.{bars-append, before_epoch-append, puts_at-put, puts_at-put_elsewhere, puts_at-put_past, contents_now-put}
@@ -10,7 +10,7 @@ use Rattle.storage_model.specs.Contents.{bars, before_epoch, contents_now, puts_
 use Rattle.storage_model.specs.declared.block.Block.{Block}
 use Rattle.storage_model.specs.declared.marks.Put.{Put}
 use Rattle.storage_model.specs.declared.marks.Mark.{Mark}
-use Rattle.storage_model.specs.declared.marks.Mark.TheVariants.{Put as PutMark, Bar}
+use Rattle.storage_model.specs.declared.marks.Mark.TheVariants.{Put as PutMark}
 use Rattle.epoch_cache.specs.declared.line.Line.{Line}
 use Rattle.epoch_cache.specs.Cache.{is_of, lines_with, new_line, renewed}
 use Rattle.epoch_cache.proofs.CacheSteps.{is_of-true, is_of-from}
@@ -18,7 +18,7 @@ use Rattle.epoch_cache.proofs.TableSteps.{all_more}
 use Rattle.card_store.proofs.Epochs.{before_epoch-next, before_epoch-now}
 use Rattle.card_store.proofs.Segments.{shown-last, shown-put, some_reliable-put}
 use Rattle.card_store.proofs.Standing.{is_at-true, is_at-from, some_or_none}
-use Rattle.card_store.specs.Stands.{LineStands, StandsIn, IsShown, is_at, some_reliable}
+use Rattle.card_store.specs.Stands.{LineStands, StandsIn, is_at, some_reliable}
 
 pub bars-put : (pend : List Mark) (put : Put) → bars (pend ++ PutMark put ∷ []) ≡ bars pend
 bars-put pend put = let more = bars-append pend (PutMark put ∷ []) in omega arith

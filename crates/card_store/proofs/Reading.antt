@@ -1,5 +1,5 @@
 -- The newest line of a sector has its value now, and where there is none the sector shown is it.
-use Rattle.std.proofs.Common.{◌≡◌, ◌≢◌, ℕ, ◌+◌, ◌-◌, ◌<◌, ◌≤◌, ◌⊎◌, suc, zero, inl, inr, Bool, true, false, ◌==◌, if◌then◌else◌, Option, Some, None, List, [], ◌∷◌, fold, get_or, length, refl, sym, ap, subst, ◌∙◌, arith}
+use Rattle.std.proofs.Common.{◌≡◌, ◌≢◌, ℕ, ◌+◌, ◌-◌, ◌<◌, ◌≤◌, ◌⊎◌, suc, inl, inr, true, false, ◌==◌, if◌then◌else◌, Option, Some, None, List, [], ◌∷◌, fold, get_or, length, refl, sym, ap, subst, ◌∙◌, arith}
 use Rattle.std.proofs.lemmas.Bool.{cases_Bool, eqb-true, both_ways, eq-eqb}
 use Rattle.std.specs.List.{AllByRecursion, list_any}
 use Rattle.storage_model.proofs.Latest.{last_value}

@@ -1,9 +1,8 @@
 -- The last segment of puts, and the value of the last put.
-use Rattle.std.proofs.Common.{◌≡◌, ℕ, inl, inr, Bool, true, false, ◌||◌, if◌then◌else◌, List, [], ◌∷◌, ◌++◌, refl, sym, ◌∙◌, append_assoc}
+use Rattle.std.proofs.Common.{◌≡◌, inl, inr, Bool, true, false, ◌||◌, if◌then◌else◌, List, [], ◌∷◌, ◌++◌, refl, sym, ◌∙◌}
 use Rattle.std.proofs.Math.Bool.{or-false}
 use Rattle.std.proofs.lemmas.Bool.{cases_Bool, both_ways, or_left, or_right, or_parts}
 use Rattle.std.proofs.lemmas.List.Sums.{fold-append}
-use Rattle.std.specs.List.{list_any}
 use Rattle.storage_model.proofs.Latest.{last_value, is_mix-torn, segments-last}
 use Rattle.storage_model.proofs.Remains.{is_mix-further, is_mix-more, is_mix-own, segments-start, segments-put}
 use Rattle.storage_model.specs.Granule.{IsMix}

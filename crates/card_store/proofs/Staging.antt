@@ -1,7 +1,7 @@
 -- A line of the epoch that is being written is programmed: it is dropped once that ended well, and else its sector is a mix.
-use Rattle.std.proofs.Common.{◌≡◌, ◌≢◌, ℕ, ◌+◌, ◌<◌, ◌≤◌, suc, zero, inl, inr, Bool, true, false, not, ◌==◌, List, [], ◌∷◌, ◌++◌, filter, get_or, length, refl, sym, ap, subst, ◌∙◌, arith, get_or-set_same, get_or-set_other}
+use Rattle.std.proofs.Common.{◌≡◌, ◌≢◌, ℕ, ◌+◌, ◌<◌, inl, inr, Bool, true, false, not, List, [], ◌∷◌, ◌++◌, filter, length, refl, sym, ap, subst, ◌∙◌, arith, get_or-set_same, get_or-set_other}
 use Rattle.std.proofs.Math.ListN.{set, length-set}
-use Rattle.std.proofs.lemmas.Bool.{cases_Bool, cases_lt, cases_eq, both_ways, or_left, or_right, or_parts, false_from_ne_true}
+use Rattle.std.proofs.lemmas.Bool.{cases_Bool, cases_eq, both_ways, or_left, false_from_ne_true}
 use Rattle.std.specs.List.{AllByRecursion, list_any}
 use Rattle.storage_model.proofs.Latest.{last_value}
 use Rattle.storage_model.specs.Contents.{bars, before_epoch, puts_at, sector_at}
@@ -9,7 +9,7 @@ use Rattle.storage_model.specs.Granule.{IsMix}
 use Rattle.storage_model.specs.declared.block.Block.{Block}
 use Rattle.storage_model.specs.declared.marks.Mark.{Mark}
 use Rattle.epoch_cache.specs.declared.line.Line.{Line}
-use Rattle.epoch_cache.specs.Cache.{AreInOrder, is_of}
+use Rattle.epoch_cache.specs.Cache.{is_of}
 use Rattle.epoch_cache.proofs.CacheSteps.{is_of-true, is_of-from}
 use Rattle.card_store.proofs.Epochs.{before_epoch-next}
 use Rattle.card_store.proofs.Segments.{last_value-put, shown-last, shown-torn}

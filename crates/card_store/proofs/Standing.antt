@@ -1,20 +1,20 @@
 -- Lines and the sectors shown stand for marks: at the next epoch, after a barrier, and what may be left.
-use Rattle.std.proofs.Common.{◌≡◌, ◌≢◌, ℕ, ◌+◌, ◌<◌, ◌≤◌, suc, zero, ◌⊎◌, inl, inr, Bool, true, false, ◌==◌, ◌&&◌, List, [], ◌∷◌, ◌++◌, length, refl, sym, ap, ◌∙◌, arith}
-use Rattle.std.proofs.lemmas.Bool.{cases_Bool, cases_lt, eqb-true, eq-eqb, ne_eqb, both_ways, or_left, or_right, or_parts, false_from_ne_true, and_parts}
+use Rattle.std.proofs.Common.{◌≡◌, ℕ, ◌+◌, ◌<◌, ◌≤◌, suc, zero, ◌⊎◌, inl, inr, Bool, true, false, ◌==◌, List, [], ◌∷◌, ◌++◌, length, refl, sym, ap, ◌∙◌, arith}
+use Rattle.std.proofs.lemmas.Bool.{cases_Bool, cases_lt, eqb-true, eq-eqb, both_ways, or_parts, false_from_ne_true, and_parts}
 use Rattle.std.specs.List.{AllByRecursion, list_any}
 use Rattle.storage_model.proofs.Appends.{bars-append, puts_at-past}
 use Rattle.storage_model.proofs.Cuts.{is_left-from, is_left_in-from}
 use Rattle.storage_model.proofs.Latest.{last_value, segments-last}
 use Rattle.storage_model.proofs.Remains.{is_mix-own}
-use Rattle.storage_model.specs.Contents.{bars, before_epoch, contents_now, puts_at, sector_at}
+use Rattle.storage_model.specs.Contents.{bars, before_epoch, puts_at, sector_at}
 use Rattle.storage_model.specs.Left.{is_left, mix_at}
 use Rattle.storage_model.specs.declared.block.Block.{Block}
 use Rattle.storage_model.specs.declared.marks.Put.{Put}
 use Rattle.storage_model.specs.declared.marks.Mark.{Mark}
-use Rattle.storage_model.specs.declared.marks.Mark.TheVariants.{Put as PutMark, Bar}
+use Rattle.storage_model.specs.declared.marks.Mark.TheVariants.{Bar}
 use Rattle.epoch_cache.specs.declared.line.Line.{Line}
 use Rattle.card_store.proofs.Epochs.{before_epoch-next, before_epoch-bar, puts_at-bar_last}
-use Rattle.card_store.proofs.Segments.{last_value-put, shown-left, shown-start, some_reliable-put}
+use Rattle.card_store.proofs.Segments.{shown-left, shown-start, some_reliable-put}
 use Rattle.card_store.specs.Stands.{LineStands, StandsIn, is_at, some_reliable}
 
 -- tests of a line

@@ -1,8 +1,7 @@
 -- A line that is at the front of its epoch is programmed.
-use Rattle.std.proofs.Common.{◌≡◌, ℕ, ◌+◌, ◌-◌, ◌<◌, ◌≤◌, ◌⊎◌, inl, inr, Bool, true, false, not, Option, Some, None, IfSome, List, [], ◌∷◌, drop, filter, get_or, remove, length, slice_get, refl, sym, ap, subst, ◌∙◌, arith}
+use Rattle.std.proofs.Common.{◌≡◌, ℕ, ◌+◌, ◌-◌, ◌<◌, ◌≤◌, ◌⊎◌, inl, inr, Bool, true, false, Option, Some, None, List, [], ◌∷◌, get_or, remove, length, slice_get, refl, subst, ◌∙◌, arith}
 use Rattle.std.proofs.Math.ListN.{set}
 use Rattle.std.specs.List.{AllByRecursion, list_any}
-use Rattle.std.specs.Prelude.{option_map}
 use Rattle.std.proofs.lemmas.Bool.{cases_Bool}
 use Rattle.std.proofs.lemmas.List.Folds.{list_any_at}
 use Rattle.std.proofs.lemmas.Option.{slice_get_within, get_or_from_slice_get}
@@ -11,12 +10,12 @@ use Rattle.storage_model.specs.declared.block.Block.{Block}
 use Rattle.storage_model.specs.declared.marks.Mark.{Mark}
 use Rattle.array_edge.specs.Array.{IsTorn, with_page}
 use Rattle.epoch_cache.specs.declared.line.Line.{Line}
-use Rattle.epoch_cache.specs.Cache.{AreInOrder, Cache, IsBefore, IsCache, is_of}
-use Rattle.epoch_cache.proofs.CacheSteps.{is_of-from, one_out, same_line, all_less}
+use Rattle.epoch_cache.specs.Cache.{AreInOrder, Cache, IsBefore, is_of}
+use Rattle.epoch_cache.proofs.CacheSteps.{is_of-from, one_out, same_line}
 use Rattle.epoch_cache.proofs.TableSteps.{all_at}
 use Rattle.card_store.proofs.Staging.{left_torn, left_whole, staged_badly, staged_well}
 use Rattle.card_store.proofs.Standing.{all_also, later_epoch}
-use Rattle.card_store.specs.Stands.{AreWithin, LineStands, LinesStand, StandsAt, StandsIn, IsShown}
+use Rattle.card_store.specs.Stands.{LineStands, LinesStand, StandsAt, StandsIn, IsShown}
 
 -- line k, no line being of an earlier epoch
 pub record IsFront (lines : List Line) (k : ℕ) (line : Line) : Type 0 where

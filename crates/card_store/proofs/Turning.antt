@@ -6,7 +6,6 @@ use Rattle.std.proofs.Math.ListN.{set}
 use Rattle.std.proofs.lemmas.Bool.{and_parts, leb-true, leb-false, ltb-true, ltb-false, cases_Bool, cases_eq, cases_lt, eq-eqb, ne_eqb, lt-ltb, or_right}
 use Rattle.std.proofs.lemmas.List.{get_or_past}
 use Rattle.std.specs.List.{AllByRecursion}
-use Rattle.epoch_cache.specs.declared.line.Line.{Line}
 use Rattle.std.proofs.lemmas.List.Folds.{list_any-append}
 use Rattle.storage_model.proofs.Appends.{bars-append, contents_now-none, puts_at-past}
 use Rattle.storage_model.proofs.Durable.{bars-keep_pend, keep_pend-every, length-keep_base, puts_at-keep_named, puts_at-keep_other}
@@ -29,7 +28,7 @@ use Rattle.intent_store.specs.Intent.{IntentStands, IsKnown, Known, shown_by}
 use Rattle.card_store.proofs.Putting.{bars-put, puts_here, puts_there}
 use Rattle.card_store.specs.Staging.{Places}
 use Rattle.card_store.specs.Stands.{LinesStand, StandsAt}
-use Rattle.card_store.specs.Store.{Contents, HasSector, Says, Stands, Store, Turns, has_last_put, has_put, is_put_on, kept, none, same, sectors_of, with_bar, with_put}
+use Rattle.card_store.specs.Store.{HasSector, Says, Stands, Store, Turns, has_last_put, has_put, is_put_on, kept, none, same, sectors_of, with_bar, with_put}
 
 pub says_none : (list : List Bool) → ((k : ℕ) → k < length list → get_or list k false ≡ false) → Says list none
 says_none list all = record {

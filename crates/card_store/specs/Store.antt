@@ -2,7 +2,7 @@
 use Rattle.std.specs.Prelude.{◌≡◌, ℕ, ◌+◌, ◌<◌, ◌≤◌, ◌==◌, Bool, false, if◌then◌else◌, nat_lt, List, [], ◌∷◌, ◌++◌, Option, Some, IfSome, MatchOption, option_map, length, slice_index_or}
 use Rattle.std.specs.List.{list_any}
 use Rattle.storage_model.specs.Contents.{bars, contents_now, puts_at, sector_at}
-use Rattle.storage_model.specs.Keep.{every_sector, is_named, keep_base, keep_pend}
+use Rattle.storage_model.specs.Keep.{keep_base, keep_pend}
 use Rattle.storage_model.specs.declared.block.Block.{Block}
 use Rattle.storage_model.specs.declared.marks.Put.{Put}
 use Rattle.storage_model.specs.declared.marks.Mark.{Mark}

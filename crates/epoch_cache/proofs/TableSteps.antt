@@ -1,5 +1,5 @@
 -- Lines in order, each in a slot of its own: a line is read, replaced, added at the end and taken out.
-use Rattle.std.proofs.Common.{◌≡◌, ◌≢◌, ℕ, ◌+◌, ◌-◌, ◌<◌, ◌≤◌, suc, zero, subst, List, [], ◌∷◌, ◌++◌, get_or, remove, drop, take, map, length, refl, sym, ap, ◌∙◌, arith, get_or-set_same, get_or-set_other, length-append, length-drop}
+use Rattle.std.proofs.Common.{◌≡◌, ◌≢◌, ℕ, ◌+◌, ◌-◌, ◌<◌, ◌≤◌, suc, zero, subst, List, [], ◌∷◌, ◌++◌, get_or, remove, take, map, length, refl, sym, ap, ◌∙◌, arith, get_or-set_same, get_or-set_other, length-append}
 use Rattle.std.proofs.Math.ListN.{set, length-set, length-map, length-take}
 use Rattle.std.proofs.lemmas.List.{take-append-le, map-append, take-map, drop-map, get_or-take, get_or-map, get_or_default, take_more_set}
 use Rattle.std.proofs.Math.Seq.{take-set-lt}

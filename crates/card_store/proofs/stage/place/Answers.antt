@@ -1,4 +1,4 @@
-use Rattle.std.proofs.Common.{◌≡◌, subst, sym}
+use Rattle.std.proofs.Common.{subst, sym}
 use Rattle.epoch_cache.specs.Cache.{Cache}
 use Rattle.intent_store.specs.Intent.{shown_by}
 use Rattle.card_store.specs.Stands.{LinesStand}

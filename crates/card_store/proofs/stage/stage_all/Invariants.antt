@@ -1,4 +1,4 @@
-use Rattle.std.proofs.Common.{◌≡◌, length}
+use Rattle.std.proofs.Common.{length}
 use Rattle.card_store.specs.Staging.{AreStaged}
 use Rattle.card_store.proofs.stage.stage_all.Given as goal
 

@@ -1,8 +1,7 @@
-use Rattle.std.proofs.Common.{◌≡◌, ◌<◌, ℕ, List, refl, remove, sym, ap, ◌∙◌}
-use Rattle.epoch_cache.specs.Cache.{Cache, IsCache}
+use Rattle.std.proofs.Common.{◌≡◌, ◌<◌, List, refl, remove, ap, ◌∙◌}
 use Rattle.epoch_cache.specs.declared.line.Line.{Line}
 use Rattle.epoch_cache.proofs.CacheSteps.{all_less}
-use Rattle.card_store.proofs.Named.{among_last, last_at, last_in_front, out_of_last}
+use Rattle.card_store.proofs.Named.{among_last, last_in_front, out_of_last}
 use Rattle.card_store.proofs.Steps.{programmed_badly, programmed_well}
 use Rattle.card_store.proofs.stage.stage_at.Goals as goal
 

@@ -1,9 +1,6 @@
 use Rattle.std.proofs.Common.{◌≡◌, ◌<◌, drop, refl, sym, ◌∙◌}
-use Rattle.epoch_cache.specs.Cache.{Cache, IsCache}
 use Rattle.epoch_cache.specs.declared.line.Line.{Line}
 use Rattle.epoch_cache.proofs.CacheSteps.{all_less}
-use Rattle.intent_store.specs.Intent.{shown_by}
-use Rattle.card_store.specs.Stands.{LinesStand}
 use Rattle.card_store.proofs.Steps.{first_in_front, programmed_badly, programmed_well}
 use Rattle.card_store.proofs.stage.stage_oldest.Goals as goal
 

@@ -1,4 +1,4 @@
-use Rattle.std.proofs.Common.{◌≡◌, ℕ, ◌<◌, false, get_or, length}
+use Rattle.std.proofs.Common.{◌≡◌, ℕ, ◌<◌, false, get_or}
 use Rattle.card_store.proofs.sector_set.SectorSet.clear.Given as goal
 
 abbrev pub invariant-loop-has : goal.invariant-loop-has

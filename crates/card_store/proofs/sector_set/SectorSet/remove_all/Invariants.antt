@@ -1,4 +1,4 @@
-use Rattle.std.proofs.Common.{◌≡◌, ◌⊎◌, ℕ, ◌<◌, ◌≤◌, false, get_or, length}
+use Rattle.std.proofs.Common.{◌≡◌, ◌⊎◌, ℕ, ◌<◌, ◌≤◌, false, get_or}
 use Rattle.card_store.proofs.sector_set.SectorSet.remove_all.Given as goal
 
 abbrev pub invariant-loop-sector : goal.invariant-loop-sector

@@ -1,4 +1,4 @@
-use Rattle.std.proofs.Common.{false, inl, inr, ◌⊎◌}
+use Rattle.std.proofs.Common.{false, inl, inr}
 use Rattle.epoch_cache.proofs.TableSteps.{all_at}
 use Rattle.card_store.proofs.Turning.{says_none}
 use Rattle.card_store.proofs.sector_set.SectorSet.start.Goals as goal

@@ -1,4 +1,4 @@
-use Rattle.std.proofs.Common.{◌≡◌, Some, ap, sym, ◌∙◌, refl}
+use Rattle.std.proofs.Common.{Some, ap, sym, ◌∙◌, refl}
 use Rattle.epoch_cache.specs.Cache.{is_of}
 use Rattle.epoch_cache.proofs.CacheSteps.{none_found, one_found}
 use Rattle.epoch_cache.proofs.cache.EpochCache.line_at.Goals as goal

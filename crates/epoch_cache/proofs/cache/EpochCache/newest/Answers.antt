@@ -1,4 +1,4 @@
-use Rattle.std.proofs.Common.{◌≡◌, ◌-◌, ◌<◌, ◌==◌, Some, true, ap, sym, ◌∙◌, arith, eq-eqb, get_or, length}
+use Rattle.std.proofs.Common.{◌≡◌, ◌-◌, ◌==◌, Some, true, ap, sym, ◌∙◌, arith, eq-eqb, get_or}
 use Rattle.epoch_cache.specs.declared.line.Line.{Line}
 use Rattle.epoch_cache.proofs.CacheSteps.{newest_of-none, newest_of-some}
 use Rattle.epoch_cache.proofs.cache.EpochCache.newest.Goals as goal
