@@ -11,7 +11,7 @@ mod order;
 mod phase_effects;
 mod start;
 
-pub use accept::{MState, Refuse, accept_item};
+pub use accept::{MState, Refuse, accept_item, accept_items};
 pub use order::Silent;
 
 #[cfg(test)]
