@@ -37,7 +37,6 @@ fn traces_are_accepted(rt: HostRuntime) -> Result<(), Fail> {
         (Case::FlashFault, FLASH_FAULT),
         (Case::FlashFault, FLASH_FAULT_OLD),
         (Case::AjarGate, AJAR_GATE),
-        (Case::Nothing, NOTHING),
         (Case::CutAtAStatus, CUT_AT_A_STATUS),
         (Case::CutAfterAFlush, CUT_AFTER_A_FLUSH),
         (Case::Coalesced, COALESCED),
