@@ -41,6 +41,8 @@ fn full_cache_stages_the_oldest_line(rt: HostRuntime) -> Result<(), Fail> {
     store.bar();
     assert_eq!(rt; store.put(&filled(1, 0xbb), &mut array), Ok(()));
     assert_eq!(rt; store.put(&filled(2, 0xcc), &mut array), Ok(()));
+    let first = array.contents().as_slice().get(8).copied();
+    assert_eq!(rt; first, Some(Block([0xaa; 512])));
     let mut block = Block([0; 512]);
     assert_eq!(rt; store.read(0, &mut block, &mut array), Ok(()));
     assert_eq!(rt; block, Block([0xaa; 512]));
@@ -48,6 +50,8 @@ fn full_cache_stages_the_oldest_line(rt: HostRuntime) -> Result<(), Fail> {
     assert_eq!(rt; store.keep(1, 1, &mut array), Ok(()));
     assert!(rt; !store.pending(1));
     assert_eq!(rt; store.flush(&mut array), Ok(()));
+    assert!(rt; !store.pending(0));
+    assert!(rt; !store.pending(1));
     assert!(rt; !store.pending(2));
     assert_eq!(rt; store.stage_one(&mut array), Err(StageEnd::Empty));
     Ok(())
