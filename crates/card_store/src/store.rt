@@ -1,4 +1,4 @@
-ghost use Rattle.std.specs.Prelude.{◌≡◌, ◌↔◌, ◌⊎◌, ◌<◌, ◌≤◌, true, [], drop, length, slice_index_or, Option, Some, None, IfSome, MatchOption, IsErrOf, IsSome, IfOk, OnOk, OnErr, Ok, option_map};
+ghost use Rattle.std.specs.Prelude.{◌≡◌, ◌↔◌, ◌⊎◌, ◌<◌, ◌≤◌, true, [], drop, length, max, slice_index_or, Option, Some, None, IfSome, MatchOption, IsErrOf, IsSome, IfOk, OnOk, OnErr, Ok, option_map};
 ghost use Rattle.storage_model.specs.Contents.{contents_now, sector_at};
 ghost use Rattle.storage_model.specs.Left.{is_left};
 ghost use Rattle.storage_model.specs.Keep.{every_sector, is_named};
@@ -42,7 +42,8 @@ impl Model for CardStore {
 impl CardStore {
     /// A store without an open image, whose cache has so many lines, but at least one. The only error is want of memory.
     pub fn start(alloc: Global, lines: u16) -> Result<CardStore, NoMemory>
-        ensures { IfOk result (λ store. store.known ≡ None) }
+        ensures closed { IfOk result (λ store. store.known ≡ None) }
+        ensures empty { IfOk result (λ store. store.cache ≡ record { lines = []; last = 0; room = max lines 1 }) }
     {
         Ok(CardStore {
             cache: EpochCache::start(alloc, lines.max(1))?,
