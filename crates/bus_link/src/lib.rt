@@ -2,8 +2,10 @@
 #![tactic(auto)]
 
 mod hits;
+mod link;
 mod script;
 
+pub use link::{Cause, Link, LinkEnd};
 pub use script::ScriptLink;
 
 #[cfg(test)]
