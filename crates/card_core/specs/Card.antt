@@ -1,5 +1,5 @@
 -- What a card is seen as.
-use Rattle.std.specs.Prelude.{◌≡◌, ◌≤◌, ℕ, Bool, true, not, Option, None, IfSome, unwrap_or}
+use Rattle.std.specs.Prelude.{◌≡◌, ◌≤◌, ℕ, Bool, true, not, [], Option, None, IfSome, unwrap_or}
 use Rattle.std.specs.Option.{option_map_or}
 use Rattle.cmd_words.specs.declared.command.Command.{Command}
 use Rattle.cmd_words.specs.declared.command.Command.TheVariants.{Execute}
@@ -41,6 +41,10 @@ pub record IsCard (card : CardState) : Type 0 where
 abbrev pub sectors : CardState → ℕ
 sectors card = unwrap_or (sectors_of card.store) 0
 
+-- its cache holds nothing that is not on the array
+abbrev pub HoldsNothing : CardState → Type 0
+HoldsNothing card = card.store.cache.lines ≡ []
+
 -- a card that has no task, no phase and nothing switched on
 abbrev pub idle_card : (depth lines : ℕ) → Bool → Store → CardState
 idle_card depth lines through store = record {
@@ -55,8 +59,8 @@ idle_card depth lines through store = record {
 }
 
 -- the extended CSD as the driver sets it up: barriers and command queueing on, and the cache unless the card writes through
-abbrev pub set_up : (sectors : ℕ) → CardState → ExtCsd
-set_up sectors card = record (fresh sectors card.depth card.lines) { command_queue = true; barrier = true; cache = not card.through }
+abbrev pub set_up : CardState → (sectors : ℕ) → ExtCsd
+set_up card sectors = record (fresh sectors card.depth card.lines) { command_queue = true; barrier = true; cache = not card.through }
 
 -- the blocks of the queued task that CMD46 or CMD47 names
 abbrev pub blocks_of : CardState → Command → ℕ
