@@ -98,6 +98,7 @@ impl Card {
 
     /// Carries out a command, and answers its status word, or the queue status word where it asks for that. `choice` has a
     /// bit for each task that is ready then.
+    #[tactic(auto, unfolding(crate::specs::Response::response_to))]
     pub fn exchange<A: Array>(
         &mut self,
         command: &Command,
@@ -237,7 +238,8 @@ impl Card {
 
     // The SWITCH that sets a barrier.
     fn set_barrier(&mut self) -> u32
-        ensures { (array : ArrayState) → IsBarred (with_direct self.old 1 false) self.old array self.new array (Ok result) }
+        ensures known { self.new.store.known ≡ self.old.store.known }
+        ensures barred { (array : ArrayState) → IsBarred (with_direct self.old 1 false) self.old array self.new array (Ok result) }
     {
         self.store.bar();
         self.begin_direct(1, false);
@@ -329,8 +331,10 @@ impl Card {
         ensures value { result ≡ phase_moving self.now read }
         ensures inside { IfSome result (λ phase. HasSector self.now.store (phase.start + phase.moved)) }
         ensures open { IfSome result (λ phase. self.now.phase ≡ Some phase) }
+        ensures small { IfSome result (λ phase. phase.start + phase.moved < 65536) }
     {
         let phase = self.phase?;
+        prove!(self.store.sectors() <= 65536);
         if phase.task.read == read && phase.moved < phase.task.blocks {
             Some(phase)
         } else {
