@@ -6,7 +6,8 @@ ghost use Rattle.intent_store.specs.declared.ends.StartEnd.TheVariants.{BadImage
 ghost use Rattle.card_store.specs.declared.ends.StageEnd.TheVariants.{Empty};
 ghost use Rattle.card_store.specs.Staging.{StageEnds};
 ghost use Rattle.card_store.specs.Store.{HasSector, HasSectors, IsOpen, IsSameStore, Reads, Stands, Turns, kept, same};
-ghost use Rattle.card_core.specs.Card.{HoldsNothing, blocks_of, idle_card, moved_blocks, sectors, set_up};
+ghost use Rattle.task_queue.specs.Queue.{addressed};
+ghost use Rattle.card_core.specs.Card.{HasPlace, HoldsNothing, blocks_of, idle_card, moved_blocks, sectors, set_up};
 ghost use Rattle.card_core.specs.Moving.{Finishes, GivesOut, TakesIn, finished, moved_on, phase_moving, write_to_keep};
 ghost use Rattle.card_core.specs.Response.{FlushCache, IsBarred, Responds, Tell, accepted, address_response, execute_response, if_queueing, is_poll, manage_response, params_response, poll_response, response_to, switch_response, with_direct};
 ghost use Rattle.card_core.specs.Serving.{block_end, word_end};
@@ -162,12 +163,11 @@ impl Card {
         if !self.csd.command_queue {
             return Status::ILLEGAL_COMMAND.word();
         }
-        let Ok(task) = self.queue.address(start) else {
+        let Some(task) = address_task(&mut self.queue, start) else {
             return Status::ILLEGAL_COMMAND.word();
         };
-        let blocks = self.queue.queued(task).map_or(0, |queued| queued.task.blocks);
-        if u64::from(start) + u64::from(blocks) > u64::from(self.store.sectors()) {
-            self.queue.discard(Some(task));
+        if u64::from(start) + u64::from(task.blocks) > u64::from(self.store.sectors()) {
+            self.queue.discard(Some(task.task));
             return Status::ADDRESS_OUT_OF_RANGE.word();
         }
         idle_word()
@@ -486,4 +486,14 @@ impl Card {
     {
         self.phase.map_or(0, |phase| phase.moved)
     }
+}
+
+// Queues the task that waits, from this start sector on, and answers it.
+fn address_task(queue: &mut TaskQueue, start: u32) -> Option<Task>
+    requires { HasPlace queue.old }
+    ensures task { result ≡ queue.old.waiting }
+    ensures queued { queue.new ≡ addressed queue.old start }
+{
+    let task = queue.address(start).ok()?;
+    queue.queued(task).map(|queued| queued.task)
 }
