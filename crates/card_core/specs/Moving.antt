@@ -85,7 +85,7 @@ GivesOut block old old_array new new_array result =
     MatchOption (phase_moving old true)
     (IsUntouched tt old old_array new new_array result × (block ≡ record { 0 = replicate 512 0 }))
     (λ phase. Served (block_answer DEVICE_ECC_FAILED) (by_end (moved_on old phase) old) same old old_array new new_array result
-      × HasRead (phase.start + phase.moved) block old old_array new new_array result)
+    × HasRead (phase.start + phase.moved) block old old_array new new_array result)
 
 -- The data phase ended: where it is a write that must be kept, the sectors of its task are kept. Else nothing is.
 abbrev pub Finishes : CardState → ArrayState → CardState → ArrayState → Result ℕ Dark → Type 0

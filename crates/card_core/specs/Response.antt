@@ -59,8 +59,8 @@ abbrev pub address_response : CardState → ℕ → Response
 address_response card start =
     option_map_or
     (λ task.
-      if nat_lt (sectors card) (start + task.blocks) then Tell (word_of ADDRESS_OUT_OF_RANGE) (record card { queue = forgotten card.queue task })
-      else accepted (record card { queue = addressed card.queue start }))
+    if nat_lt (sectors card) (start + task.blocks) then Tell (word_of ADDRESS_OUT_OF_RANGE) (record card { queue = forgotten card.queue task })
+    else accepted (record card { queue = addressed card.queue start }))
     card.queue.waiting
     (refused card ILLEGAL_COMMAND)
 

@@ -304,11 +304,7 @@ impl Card {
     }
 
     /// Gives a block out. Where no read is open, or all its blocks moved, it is zeros. After an error it is anything.
-    pub fn block_out<A: Array>(
-        &mut self,
-        block: &mut Block,
-        array: &mut A,
-    ) -> Result<(), BlockEnd>
+    pub fn block_out<A: Array>(&mut self, block: &mut Block, array: &mut A) -> Result<(), BlockEnd>
         requires open { IsOpen self.old.store (A.state array.old) }
         ensures open { IsOpen self.new.store (A.state array.new) }
         ensures block { GivesOut block.new self.old (A.state array.old) self.new (A.state array.new) result }
@@ -474,7 +470,9 @@ impl Card {
     {
         match *command {
             Command::Execute { task, .. } => {
-                self.queue.queued(task).map_or(0, |queued| queued.task.blocks)
+                self.queue
+                    .queued(task)
+                    .map_or(0, |queued| queued.task.blocks)
             }
             _ => 0,
         }
