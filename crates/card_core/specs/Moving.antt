@@ -1,5 +1,5 @@
 -- Data phases: their blocks, and their end (JESD84-B51, section 6.6.39).
-use Rattle.std.specs.Prelude.{◌≡◌, ℕ, ◌+◌, ◌==◌, ◌&&◌, ◌||◌, Bool, true, not, if◌then◌else◌, nat_lt, Option, Some, None, Result, Ok, Err, MatchOption, OnOk, option_map, replicate}
+use Rattle.std.specs.Prelude.{◌≡◌, ℕ, ◌+◌, ◌==◌, ◌&&◌, ◌||◌, Bool, true, false, not, if◌then◌else◌, nat_lt, Option, Some, None, Result, Ok, Err, MatchOption, OnOk, option_map, replicate}
 use Rattle.std.specs.Bool.{beq}
 use Rattle.std.specs.Option.{option_map_or}
 use Rattle.cmd_words.specs.declared.status.TheConstants.Status.{DEVICE_ECC_FAILED, ERROR}
@@ -62,9 +62,9 @@ abbrev pub next_put : DataPhase → Block → Put
 next_put phase block = record { sector = phase.start + phase.moved; value = block; reliable = phase.task.reliable }
 
 -- nothing was done with store and array
-record IsUntouched {T E : Type 0} (value : T) (card : CardState) (old_array : ArrayState) (new : CardState) (new_array : ArrayState) (result : Result T E) : Type 0 where
+pub record IsUntouched {T E : Type 0} (value : T) (after : CardState) (old_array : ArrayState) (new : CardState) (new_array : ArrayState) (result : Result T E) : Type 0 where
   pub answer : result ≡ Ok value
-  pub card : new ≡ card
+  pub card : new ≡ after
   pub array : new_array ≡ old_array
 
 -- A block came in: where a write waits for it, the store has its put. Else it is dropped.
@@ -75,8 +75,8 @@ TakesIn block old old_array new new_array result =
     (λ phase. Served (block_answer ERROR) (by_end (moved_on old phase) old) (with_put (next_put phase block)) old old_array new new_array result)
 
 -- the store was read
-record HasRead (sector : ℕ) (block : Block) (old : CardState) (old_array : ArrayState) (new : CardState) (new_array : ArrayState) (result : Result (Unit {0}) BlockEnd) : Type 0 where
-  pub block : OnOk result (Reads old.store old_array sector block)
+pub record HasRead (sector : ℕ) (value : Block) (old : CardState) (old_array : ArrayState) (new : CardState) (new_array : ArrayState) (result : Result (Unit {0}) BlockEnd) : Type 0 where
+  pub block : OnOk result (Reads old.store old_array sector value)
   pub told : new_array.told ≡ old_array.told
 
 -- A block went out: where a read waits to give it, it is the sector's value. Else it is zeros.
@@ -85,7 +85,7 @@ GivesOut block old old_array new new_array result =
     MatchOption (phase_moving old true)
     (IsUntouched tt old old_array new new_array result × (block ≡ record { 0 = replicate 512 0 }))
     (λ phase. Served (block_answer DEVICE_ECC_FAILED) (by_end (moved_on old phase) old) same old old_array new new_array result
-      × HasRead (phase.start + phase.moved) block old old_array new new_array result)
+    × HasRead (phase.start + phase.moved) block old old_array new new_array result)
 
 -- The data phase ended: where it is a write that must be kept, the sectors of its task are kept. Else nothing is.
 abbrev pub Finishes : CardState → ArrayState → CardState → ArrayState → Result ℕ Dark → Type 0

@@ -27,7 +27,7 @@ use Rattle.card_core.specs.Serving.{Served, by_end, without_error, word_answer, 
 -- What a command has the card do. `Tell`: it answers a word and is another card, and the store is as it was. `SetBarrier`: a
 -- new epoch begins in the store besides, and the word has no error. `FlushCache`: the store is flushed; the card is another
 -- where that went well, and another where it did not.
-data Response : Type 0 where
+pub data Response : Type 0 where
   Tell : (word : ℕ) → CardState → Response
   SetBarrier : CardState → Response
   FlushCache : (well badly : CardState) → Response
@@ -59,8 +59,8 @@ abbrev pub address_response : CardState → ℕ → Response
 address_response card start =
     option_map_or
     (λ task.
-      if nat_lt (sectors card) (start + task.blocks) then Tell (word_of ADDRESS_OUT_OF_RANGE) (record card { queue = forgotten card.queue task })
-      else accepted (record card { queue = addressed card.queue start }))
+    if nat_lt (sectors card) (start + task.blocks) then Tell (word_of ADDRESS_OUT_OF_RANGE) (record card { queue = forgotten card.queue task })
+    else accepted (record card { queue = addressed card.queue start }))
     card.queue.waiting
     (refused card ILLEGAL_COMMAND)
 
@@ -125,9 +125,9 @@ is_poll (Status queue rca) = queue
 is_poll _ = false
 
 -- A barrier was set: a new epoch began in the store.
-record IsBarred (card old : CardState) (old_array : ArrayState) (new : CardState) (new_array : ArrayState) (result : Result ℕ Dark) : Type 0 where
+pub record IsBarred (after old : CardState) (old_array : ArrayState) (new : CardState) (new_array : ArrayState) (result : Result ℕ Dark) : Type 0 where
   pub answer : result ≡ Ok without_error
-  pub card : new ≡ record card { store = new.store }
+  pub card : new ≡ record after { store = new.store }
   pub array : new_array ≡ old_array
   pub known : new.store.known ≡ old.store.known
   pub epoch : new.store.cache ≡ record old.store.cache { last = next_epoch old.store.cache.last }

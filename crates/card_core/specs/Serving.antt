@@ -46,7 +46,7 @@ by_end well badly end = if is_ok end then well else badly
 -- contents. The image is the same.
 pub record Served {T E : Type 0} (answer : End → Result T E) (after : End → CardState) (f : Contents → Contents) (old : CardState) (old_array : ArrayState) (new : CardState) (new_array : ArrayState) (result : Result T E) : Type 0 where
   pub end : End
-  pub answer : result ≡ answer end
+  pub answers : result ≡ answer end
   pub card : new ≡ record (after end) { store = new.store }
   pub store : IsSameStore old.store new.store
   pub turns : Turns (by_end f same end) old.store old_array new.store new_array
