@@ -478,6 +478,13 @@ impl Card {
         }
     }
 
+    /// The data phase that is open.
+    pub fn phase(&self) -> Option<DataPhase>
+        ensures { result ≡ self.now.phase }
+    {
+        self.phase
+    }
+
     /// How many blocks of the open data phase moved; 0 where none is open.
     pub fn moved(&self) -> u16
         ensures { result ≡ moved_blocks self.now }
