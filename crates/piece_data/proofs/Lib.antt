@@ -1,3 +1,4 @@
 pub mod Ranges
 pub mod Bytes
 pub mod Reading
+pub mod Writing
