@@ -7,7 +7,7 @@ use Rattle.std.proofs.lemmas.List.{take-append-drop}
 abbrev made : ℕ → List ℕ → Memory
 made base bytes = record { base = base; bytes = bytes }
 
-rejoined : (place : ℕ) (bytes : List ℕ) → take place bytes ++ ([] ++ drop (place + 0) bytes) ≡ bytes
+pub rejoined : (place : ℕ) (bytes : List ℕ) → take place bytes ++ ([] ++ drop (place + 0) bytes) ≡ bytes
 rejoined place bytes = let e : place + 0 ≡ place = omega arith in rw e (take-append-drop place bytes)
 
 -- an empty write changes nothing
