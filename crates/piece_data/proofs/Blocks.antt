@@ -1,5 +1,5 @@
 -- Where no two pieces have a byte in common, a write changes just its bytes of the data.
-use Rattle.std.proofs.Common.{◌≡◌, ◌≢◌, ℕ, zero, suc, ◌+◌, ◌-◌, ◌*◌, ◌<◌, ◌≤◌, inl, inr, List, [], ◌∷◌, ◌++◌, length, take, drop, min, refl, sym, ap, ◌∙◌, arith, length-drop}
+use Rattle.std.proofs.Common.{◌≡◌, ◌≢◌, ℕ, suc, ◌+◌, ◌-◌, ◌*◌, ◌<◌, ◌≤◌, inl, inr, List, [], ◌∷◌, ◌++◌, length, take, drop, min, refl, sym, ap, ◌∙◌, arith, length-drop}
 use Rattle.std.specs.Prelude.{All}
 use Rattle.std.proofs.lemmas.Bool.{cases_lt}
 use Rattle.std.proofs.lemmas.List.{length-take}
@@ -41,8 +41,8 @@ pieces-kept memory piece skip bytes [] range h inside apart = refl
 pieces-kept memory piece skip bytes (p ∷ ps) range h inside apart =
     let whole = All-head (IsApart piece) p ps apart in
     let first : bytes_of (with_bytes memory (piece.at + skip) bytes) p.at p.len ≡ bytes_of memory p.at p.len =
-      written-apart memory (piece.at + skip) p.at p.len bytes range (inside-first memory p ps inside)
-      (λ i j lt less e. whole (skip + j) i (omega arith) lt (omega arith)) in
+    written-apart memory (piece.at + skip) p.at p.len bytes range (inside-first memory p ps inside)
+    (λ i j lt less e. whole (skip + j) i (omega arith) lt (omega arith)) in
     let others = pieces-kept memory piece skip bytes ps range h (inside-others memory p ps inside) (All-tail (IsApart piece) p ps apart) in
     ap (λ l. l ++ bytes_at (with_bytes memory (piece.at + skip) bytes) ps) first ∙ ap (λ l. bytes_of memory p.at p.len ++ l) others
 
@@ -69,22 +69,22 @@ data-over memory (p ∷ ps) first n bytes inside apart e =
     let last = scatter next others behind in
     let heads = apart-first p ps apart in
     let kept : bytes_of last p.at p.len ≡ bytes_of next p.at p.len =
-      scatter-others next others behind (parts-inside next ps (first - p.len) (n - (p.len - first)) still) p
-      (with_bytes-range memory (p.at + first) part inner p.at p.len range)
-      (parts-apart p ps (first - p.len) (n - (p.len - first)) heads) in
+    scatter-others next others behind (parts-inside next ps (first - p.len) (n - (p.len - first)) still) p
+    (with_bytes-range memory (p.at + first) part inner p.at p.len range)
+    (parts-apart p ps (first - p.len) (n - (p.len - first)) heads) in
     let this : bytes_of next p.at p.len ≡ put_over (bytes_of memory p.at p.len) first part =
-      over-piece memory p.at p.len first part range (omega arith) in
+    over-piece memory p.at p.len first part range (omega arith) in
     let rest : bytes_at last ps ≡ put_over (bytes_at next ps) (first - p.len) behind =
-      data-over next ps (first - p.len) (n - (p.len - first)) behind still (apart-others p ps apart) (omega (arith, length-drop c bytes)) in
+    data-over next ps (first - p.len) (n - (p.len - first)) behind still (apart-others p ps apart) (omega (arith, length-drop c bytes)) in
     let same : bytes_at next ps ≡ bytes_at memory ps =
-      pieces-kept memory p first part ps inner (omega arith) (inside-others memory p ps inside) heads in
+    pieces-kept memory p first part ps inner (omega arith) (inside-others memory p ps inside) heads in
     let whole : length (bytes_of memory p.at p.len) ≡ p.len = length-bytes_of memory p.at p.len range in
     let joined = append-over (bytes_of memory p.at p.len) (bytes_at memory ps) first bytes in
     ap (λ l. l ++ bytes_at last ps) (kept ∙ this)
     ∙ ap (λ l. put_over (bytes_of memory p.at p.len) first part ++ l) (rest ∙ ap (λ l. put_over l (first - p.len) behind) same)
     ∙ ap (λ m. put_over (bytes_of memory p.at p.len) first (take (min (m - first) n) bytes) ++ put_over (bytes_at memory ps) (first - m) (drop (min (m - first) n) bytes)) (sym whole)
     ∙ ap (λ m. put_over (bytes_of memory p.at p.len) first (take (min (length (bytes_of memory p.at p.len) - first) m) bytes)
-        ++ put_over (bytes_at memory ps) (first - length (bytes_of memory p.at p.len)) (drop (min (length (bytes_of memory p.at p.len) - first) m) bytes)) e
+    ++ put_over (bytes_at memory ps) (first - length (bytes_of memory p.at p.len)) (drop (min (length (bytes_of memory p.at p.len) - first) m) bytes)) e
     ∙ sym joined
 
 abbrev made : List ℕ → Block

@@ -1,5 +1,5 @@
 -- What a write into parts keeps: the addresses, and the bytes of the ranges apart from them.
-use Rattle.std.proofs.Common.{◌≡◌, ◌≢◌, ℕ, zero, suc, ◌+◌, ◌-◌, ◌<◌, ◌≤◌, ◌⊎◌, inl, inr, List, [], ◌∷◌, ◌++◌, length, take, drop, min, refl, sym, ap, ◌∙◌, arith}
+use Rattle.std.proofs.Common.{◌≡◌, ◌≢◌, ℕ, zero, suc, ◌+◌, ◌-◌, ◌<◌, ◌≤◌, ◌⊎◌, inl, inr, List, [], ◌∷◌, length, take, drop, min, refl, ap, ◌∙◌, arith}
 use Rattle.std.specs.Prelude.{All}
 use Rattle.std.proofs.lemmas.Bool.{cases_lt}
 use Rattle.std.proofs.lemmas.List.{length-take}
@@ -20,12 +20,12 @@ pub one_after_other : (at len start n : ℕ) → 0 < len → 0 < n → ((i j : �
 one_after_other at len start n some also apart = elim (cases_lt start (at + len)) [
   | inr above ↦ inl above
   | inl below ↦ elim (cases_lt at (start + n)) [
-      | inr under ↦ inr under
-      | inl over ↦ elim (cases_lt start at) [
-          | inl before ↦ absurd (apart (at - start) 0 (omega arith) some (omega arith))
-          | inr behind ↦ absurd (apart 0 (start - at) also (omega arith) (omega arith))
-        ]
+    | inr under ↦ inr under
+    | inl over ↦ elim (cases_lt start at) [
+      | inl before ↦ absurd (apart (at - start) 0 (omega arith) some (omega arith))
+      | inr behind ↦ absurd (apart 0 (start - at) also (omega arith) (omega arith))
     ]
+  ]
 ]
 
 pub written-apart : (memory : Memory) (at start n : ℕ) (bytes : List ℕ) → HasRange memory at (length bytes) → HasRange memory start n
@@ -85,3 +85,12 @@ parts-apart range (p ∷ ps) first len apart =
     All-cons (IsApart range) (record { at = p.at + first; len = min (p.len - first) len }) (parts ps (first - p.len) (len - (p.len - first)))
     (λ i j lt less e. whole i (first + j) lt (omega arith) (omega arith))
     (parts-apart range ps (first - p.len) (len - (p.len - first)) (All-tail (IsApart range) p ps apart))
+
+-- what is in a memory is in one of the same space
+pub range-same_space : (old new : Memory) (at len : ℕ) → HasSameSpace old new → HasRange old at len → HasRange new at len
+range-same_space old new at len space range k lt =
+    let has = range k lt in
+    (omega (arith, has.0, space.base), omega (arith, has.1, space.base, space.size))
+
+pub inside-same_space : (old new : Memory) (ps : List Piece) → HasSameSpace old new → AreInside old ps → AreInside new ps
+inside-same_space old new ps space inside = λ k d lt. range-same_space old new _ _ space (inside k d lt)

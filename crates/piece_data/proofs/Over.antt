@@ -1,5 +1,5 @@
 -- A list with other bytes from a place on.
-use Rattle.std.proofs.Common.{◌≡◌, ℕ, zero, suc, ◌+◌, ◌-◌, ◌<◌, ◌≤◌, List, [], ◌∷◌, ◌++◌, length, take, drop, min, refl, sym, ap, ◌∙◌, arith, length-drop}
+use Rattle.std.proofs.Common.{◌≡◌, ℕ, zero, suc, ◌+◌, ◌-◌, ◌≤◌, List, [], ◌∷◌, ◌++◌, length, take, drop, min, refl, sym, ap, ◌∙◌, arith, length-drop}
 use Rattle.piece_data.proofs.Ranges.{rejoined}
 
 abbrev pub put_over : List ℕ → ℕ → List ℕ → List ℕ
@@ -43,7 +43,7 @@ take-put_over (x ∷ xs) (suc n) (suc at) bytes h = ap (λ l. x ∷ l) (take-put
 -- bytes over two lists one after the other
 pub append-over : (xs ys : List ℕ) (at : ℕ) (bytes : List ℕ) → put_over (xs ++ ys) at bytes
     ≡ put_over xs at (take (min (length xs - at) (length bytes)) bytes)
-      ++ put_over ys (at - length xs) (drop (min (length xs - at) (length bytes)) bytes)
+    ++ put_over ys (at - length xs) (drop (min (length xs - at) (length bytes)) bytes)
 append-over [] ys at bytes =
     let a : min (0 - at) (length bytes) ≡ 0 = omega arith in
     let b : at - 0 ≡ at = omega arith in

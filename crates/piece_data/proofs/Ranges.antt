@@ -1,5 +1,5 @@
 -- Ranges of the memory below its end, and parts of them.
-use Rattle.std.proofs.Common.{◌≡◌, ℕ, zero, suc, ◌+◌, ◌-◌, ◌^◌, ◌<◌, ◌≤◌, List, [], ◌∷◌, ◌++◌, length, take, drop, min, refl, sym, ap, ◌∙◌, arith}
+use Rattle.std.proofs.Common.{◌≡◌, ℕ, zero, suc, ◌+◌, ◌-◌, ◌^◌, ◌<◌, ◌≤◌, List, [], ◌∷◌, ◌++◌, length, take, drop, refl, sym, ap, ◌∙◌, arith}
 use Rattle.host_mem.specs.Memory.{Memory, HasRange, bytes_of, with_bytes}
 use Rattle.host_mem.proofs.MemoryLaws.{between_ends, bytes_of-part}
 use Rattle.std.proofs.lemmas.List.{take-append-drop}

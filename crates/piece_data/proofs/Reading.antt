@@ -1,7 +1,6 @@
 -- The loop that reads: what it has and what it has still to read are what is wanted.
-use Rattle.std.proofs.Common.{◌≡◌, ℕ, zero, suc, ◌+◌, ◌-◌, ◌<◌, ◌≤◌, List, [], ◌∷◌, ◌++◌, length, get_or, take, drop, min, refl, sym, ap, ◌∙◌, arith, append_assoc}
+use Rattle.std.proofs.Common.{◌≡◌, ℕ, ◌+◌, ◌-◌, ◌<◌, ◌≤◌, List, [], ◌++◌, length, get_or, take, drop, min, refl, sym, ap, ◌∙◌, arith, append_assoc}
 use Rattle.std.proofs.lemmas.List.{take_all, drop_all, append-nil}
-use Rattle.std.proofs.lemmas.List.Elements.{All-get_or}
 use Rattle.host_mem.specs.Memory.{Memory, HasRange, bytes_of}
 use Rattle.host_mem.proofs.MemoryLaws.{length-bytes_of}
 use Rattle.cq_chain.specs.declared.pieces.Piece.{Piece}
@@ -30,9 +29,9 @@ read-end memory pieces first to i done skip read h =
     let rest : length to - done ≡ 0 = omega arith in
     let so_far = read.so_far in
     sym (ap (λ n. take n to ++ take (length to - done) (drop skip (bytes_at memory (drop i pieces)))) all
-      ∙ ap (λ n. take (length to) to ++ take n (drop skip (bytes_at memory (drop i pieces)))) rest
-      ∙ append-nil (take (length to) to)
-      ∙ take_all (length to) to (omega arith))
+    ∙ ap (λ n. take (length to) to ++ take n (drop skip (bytes_at memory (drop i pieces)))) rest
+    ∙ append-nil (take (length to) to)
+    ∙ take_all (length to) to (omega arith))
     ∙ so_far
 
 pub read-more : (memory : Memory) (pieces : List Piece) (first : ℕ) (to after part : List ℕ) (i done skip count : ℕ) (d piece : Piece)
@@ -55,20 +54,20 @@ read-more memory pieces first to after part i done skip count d piece inside rea
     let c_is : min (length whole - skip) n ≡ count = rw len (sym c) in
     let s_is : skip - length whole ≡ skip - piece.len = rw len refl in
     let split : take n (drop skip (bytes_at memory (drop i pieces))) ≡ part ++ take (length after - (done + count)) (drop (skip - piece.len) (bytes_at memory rest)) =
-      ap (λ ps. take n (drop skip (bytes_at memory ps))) (next_pieces pieces i d piece lt is)
-      ∙ ap (λ l. take n (drop skip l)) (bytes_at-cons memory piece rest)
-      ∙ take-over n skip whole (bytes_at memory rest)
-      ∙ ap (λ k. take k (drop skip whole) ++ take (n - (length whole - skip)) (drop (skip - length whole) (bytes_at memory rest))) c_is
-      ∙ ap (λ l. l ++ take (n - (length whole - skip)) (drop (skip - length whole) (bytes_at memory rest))) (sym part_is)
-      ∙ ap (λ k. part ++ take k (drop (skip - length whole) (bytes_at memory rest))) n_is
-      ∙ ap (λ k. part ++ take (length after - (done + count)) (drop k (bytes_at memory rest))) s_is in
+    ap (λ ps. take n (drop skip (bytes_at memory ps))) (next_pieces pieces i d piece lt is)
+    ∙ ap (λ l. take n (drop skip l)) (bytes_at-cons memory piece rest)
+    ∙ take-over n skip whole (bytes_at memory rest)
+    ∙ ap (λ k. take k (drop skip whole) ++ take (n - (length whole - skip)) (drop (skip - length whole) (bytes_at memory rest))) c_is
+    ∙ ap (λ l. l ++ take (n - (length whole - skip)) (drop (skip - length whole) (bytes_at memory rest))) (sym part_is)
+    ∙ ap (λ k. part ++ take k (drop (skip - length whole) (bytes_at memory rest))) n_is
+    ∙ ap (λ k. part ++ take (length after - (done + count)) (drop k (bytes_at memory rest))) s_is in
     record {
       within = omega (arith, read.within);
       left = omega (arith, read.left, read.within, bytes_in-next pieces i d piece lt is);
       so_far =
-        ap (λ l. l ++ take (length after - (done + count)) (drop (skip - piece.len) (bytes_at memory rest))) front
-        ∙ append_assoc (take done to) part (take (length after - (done + count)) (drop (skip - piece.len) (bytes_at memory rest)))
-        ∙ ap (λ l. take done to ++ l) (sym split)
-        ∙ read.so_far
-        ∙ ap (λ k. take k (drop first (bytes_at memory pieces))) (sym same);
+          ap (λ l. l ++ take (length after - (done + count)) (drop (skip - piece.len) (bytes_at memory rest))) front
+          ∙ append_assoc (take done to) part (take (length after - (done + count)) (drop (skip - piece.len) (bytes_at memory rest)))
+          ∙ ap (λ l. take done to ++ l) (sym split)
+          ∙ read.so_far
+          ∙ ap (λ k. take k (drop first (bytes_at memory pieces))) (sym same);
     }

@@ -1,5 +1,5 @@
 -- The loop that writes: what it has still to write makes of the memory what the whole write makes.
-use Rattle.std.proofs.Common.{◌≡◌, ℕ, zero, suc, ◌+◌, ◌-◌, ◌<◌, ◌≤◌, List, [], ◌∷◌, ◌++◌, length, get_or, take, drop, min, refl, sym, ap, subst, ◌∙◌, arith, length-drop}
+use Rattle.std.proofs.Common.{◌≡◌, ℕ, ◌+◌, ◌-◌, ◌<◌, ◌≤◌, List, [], ◌∷◌, length, get_or, take, drop, min, refl, sym, ap, ◌∙◌, arith, length-drop}
 use Rattle.std.proofs.lemmas.List.{drop_all, drop-drop, length-take}
 use Rattle.host_mem.specs.Memory.{Memory, HasRange, with_bytes}
 use Rattle.host_mem.proofs.MemoryLaws.{with_bytes-range}
@@ -59,20 +59,20 @@ write-more old new after pieces first from part i done skip count d piece writte
     let part_range : HasRange new (piece.at + skip) (length part) = range-within new piece.at piece.len skip (length part) range (omega arith) in
     let n_is : n - (piece.len - skip) ≡ length from - (done + count) = omega arith in
     let step : scatter new (parts (piece ∷ rest) skip n) ys
-        ≡ scatter (with_bytes new (piece.at + skip) (take (min (piece.len - skip) n) ys)) (parts rest (skip - piece.len) (n - (piece.len - skip)))
-          (drop (min (piece.len - skip) n) ys) = refl in
+    ≡ scatter (with_bytes new (piece.at + skip) (take (min (piece.len - skip) n) ys)) (parts rest (skip - piece.len) (n - (piece.len - skip)))
+    (drop (min (piece.len - skip) n) ys) = refl in
     let next : scatter (with_bytes new (piece.at + skip) (take count ys)) (parts rest (skip - piece.len) (length from - (done + count))) (drop count ys)
-        ≡ scatter new (parts (piece ∷ rest) skip n) ys =
-      ap (λ m. scatter (with_bytes new (piece.at + skip) (take m ys)) (parts rest (skip - piece.len) (length from - (done + count))) (drop m ys)) c
-      ∙ ap (λ m. scatter (with_bytes new (piece.at + skip) (take (min (piece.len - skip) n) ys)) (parts rest (skip - piece.len) m) (drop (min (piece.len - skip) n) ys)) (sym n_is) in
+    ≡ scatter new (parts (piece ∷ rest) skip n) ys =
+    ap (λ m. scatter (with_bytes new (piece.at + skip) (take m ys)) (parts rest (skip - piece.len) (length from - (done + count))) (drop m ys)) c
+    ∙ ap (λ m. scatter (with_bytes new (piece.at + skip) (take (min (piece.len - skip) n) ys)) (parts rest (skip - piece.len) m) (drop (min (piece.len - skip) n) ys)) (sym n_is) in
     record {
       within = omega (arith, written.within);
       left = omega (arith, written.left, written.within, bytes_in-next pieces i d piece lt is);
       inside = rw a (inside-written new (piece.at + skip) part pieces part_range written.inside);
       so_far =
-        ap (λ m. scatter m (parts rest (skip - piece.len) (length from - (done + count))) (drop (done + count) from)) (a ∙ ap (with_bytes new (piece.at + skip)) p)
-        ∙ ap (λ l. scatter (with_bytes new (piece.at + skip) (take count ys)) (parts rest (skip - piece.len) (length from - (done + count))) l) (sym (drop-drop count done from))
-        ∙ next
-        ∙ ap (λ ps. scatter new (parts ps skip n) ys) (sym (next_pieces pieces i d piece lt is))
-        ∙ written.so_far;
+          ap (λ m. scatter m (parts rest (skip - piece.len) (length from - (done + count))) (drop (done + count) from)) (a ∙ ap (with_bytes new (piece.at + skip)) p)
+          ∙ ap (λ l. scatter (with_bytes new (piece.at + skip) (take count ys)) (parts rest (skip - piece.len) (length from - (done + count))) l) (sym (drop-drop count done from))
+          ∙ next
+          ∙ ap (λ ps. scatter new (parts ps skip n) ys) (sym (next_pieces pieces i d piece lt is))
+          ∙ written.so_far;
     }

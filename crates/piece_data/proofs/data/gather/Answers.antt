@@ -1,9 +1,9 @@
-use Rattle.std.proofs.Common.{◌≡◌, ◌+◌, ◌-◌, ◌≤◌, length, take, refl, sym, ap, ◌∙◌, arith}
+use Rattle.std.proofs.Common.{◌≡◌, ◌+◌, ◌-◌, ◌≤◌, length, refl, ap, ◌∙◌, arith}
 use Rattle.std.proofs.lemmas.Slice.{take-put_mid}
 use borrow.Rule.Slice.PartMut.{put_mid, mid_of, mid_len, same_len_mid}
 use Rattle.host_mem.specs.Memory.{bytes_of}
 use Rattle.piece_data.proofs.Bytes.{inside-at}
-use Rattle.piece_data.proofs.Reading.{read-start, read-end, read-more}
+use Rattle.piece_data.proofs.Reading.{read-start, read-more}
 use Rattle.piece_data.proofs.data.gather.Goals as goal
 
 pub loop-piece-init : goal.loop-piece-init
@@ -26,8 +26,8 @@ loop-piece-preserved c =
     let len : length new ≡ length (mid_of done (done + count - done) to) = c.read_part.auto.to in
     rw c.saturating_sub-skip.ensures
     (read-more c.args.mem.now c.args.pieces.now c.args.first to (put_mid done (done + count - done) to new) new
-      c.loop-piece.piece-index done c.loop-piece.skip count _ _
-      c.requires.inside c.loop-piece.invariant c.loop-piece-test.true refl
-      c.count_of-count.ensures part
-      (take-put_mid done (done + count - done) to new (done + count) (omega (arith, len, long)) (omega arith))
-      (same_len_mid done (done + count - done) to new len))
+    c.loop-piece.piece-index done c.loop-piece.skip count _ _
+    c.requires.inside c.loop-piece.invariant c.loop-piece-test.true refl
+    c.count_of-count.ensures part
+    (take-put_mid done (done + count - done) to new (done + count) (omega (arith, len, long)) (omega arith))
+    (same_len_mid done (done + count - done) to new len))

@@ -11,5 +11,5 @@ unfolding block_of
 returns c =
     let long : length c.args.block.now.0 ≡ 512 = omega arith in
     ap made (c.gather.ensures
-      ∙ ap (λ n. take n (drop (512 * c.from.result) (bytes_at c.args.mem.now c.args.pieces.now))) long
-      ∙ ap (λ n. take 512 (drop (512 * n) (bytes_at c.args.mem.now c.args.pieces.now))) c.from.ensures)
+    ∙ ap (λ n. take n (drop (512 * c.from.result) (bytes_at c.args.mem.now c.args.pieces.now))) long
+    ∙ ap (λ n. take 512 (drop (512 * n) (bytes_at c.args.mem.now c.args.pieces.now))) c.from.ensures)

@@ -1,4 +1,4 @@
-use Rattle.std.proofs.Common.{◌≡◌, ◌+◌, ◌-◌, ◌≤◌, length, take, drop, refl, sym, ap, ◌∙◌, arith}
+use Rattle.std.proofs.Common.{◌≡◌, ◌+◌, ◌-◌, take, drop, refl, ap, arith}
 use Rattle.piece_data.proofs.Bytes.{inside-at}
 use Rattle.piece_data.proofs.Writing.{write-start, write-end, write-more}
 use Rattle.piece_data.proofs.data.scatter.Goals as goal
@@ -18,11 +18,11 @@ loop-piece-preserved c =
     let n : done + count - done ≡ count = omega arith in
     rw c.saturating_sub-skip.ensures
     (write-more c.args.mem.now c.loop-piece.mem c.write_part.new.mem c.args.pieces.now c.args.first from (take (done + count - done) (drop done from))
-      c.loop-piece.piece-index done c.loop-piece.skip count _ _
-      c.loop-piece.invariant c.loop-piece-test.true refl
-      c.count_of-count.ensures
-      (ap (λ k. take k (drop done from)) n)
-      c.write_part.ensures)
+    c.loop-piece.piece-index done c.loop-piece.skip count _ _
+    c.loop-piece.invariant c.loop-piece-test.true refl
+    c.count_of-count.ensures
+    (ap (λ k. take k (drop done from)) n)
+    c.write_part.ensures)
 
 pub returns : goal.returns
 returns c =

@@ -1,7 +1,5 @@
-use Rattle.std.proofs.Common.{◌≡◌, ◌*◌, List, ℕ, length, take, drop, ap, sym, subst, ◌∙◌, arith}
-use Rattle.host_mem.specs.Memory.{Memory}
+use Rattle.std.proofs.Common.{◌≡◌, ◌*◌, length, ap, ◌∙◌, arith}
 use Rattle.piece_data.specs.Data.{parts, scatter, with_block}
-use Rattle.piece_data.specs.Laws.{AreApart, ChangesBlock, HasSameSpace, KeepsOthers}
 use Rattle.piece_data.proofs.Blocks.{blocks-changed, block-space, block-others}
 use Rattle.piece_data.proofs.data.write_block.Goals as goal
 

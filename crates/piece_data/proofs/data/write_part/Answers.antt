@@ -1,4 +1,4 @@
-use Rattle.std.proofs.Common.{◌∙◌, ◌+◌, length, arith}
+use Rattle.std.proofs.Common.{◌∙◌, ◌+◌, arith}
 use Rattle.piece_data.proofs.Ranges.{with_bytes-stopped}
 use Rattle.piece_data.proofs.data.write_part.Goals as goal
 
