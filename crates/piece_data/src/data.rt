@@ -1,4 +1,4 @@
-ghost use Rattle.std.specs.Prelude.{◌≡◌, ◌≢◌, ◌+◌, ◌-◌, ◌*◌, ◌≤◌, ℕ, length, min, take, drop};
+ghost use Rattle.std.specs.Prelude.{◌≡◌, ◌+◌, ◌-◌, ◌*◌, ◌≤◌, length, min, take, drop};
 ghost use Rattle.host_mem.specs.Memory.{HasRange, bytes_of, with_bytes};
 ghost use Rattle.cq_chain.specs.Descriptors.{AreInside, bytes_in};
 ghost use Rattle.piece_data.specs.Data.{block_of, bytes_at, parts, scatter, with_block};
