@@ -1,5 +1,5 @@
 -- What a card is seen as.
-use Rattle.std.specs.Prelude.{◌≡◌, ◌≤◌, ◌<◌, ℕ, Bool, true, not, [], Option, None, IfSome, unwrap_or}
+use Rattle.std.specs.Prelude.{◌≡◌, ◌≤◌, ◌<◌, ℕ, Bool, true, not, [], drop, Option, None, IfSome, unwrap_or}
 use Rattle.std.specs.Option.{option_map_or}
 use Rattle.cmd_words.specs.declared.command.Command.{Command}
 use Rattle.cmd_words.specs.declared.command.Command.TheVariants.{Execute}
@@ -48,6 +48,10 @@ sectors card = unwrap_or (sectors_of card.store) 0
 -- its cache holds nothing that is not on the array
 abbrev pub HoldsNothing : CardState → Type 0
 HoldsNothing card = card.store.cache.lines ≡ []
+
+-- the oldest of what its cache holds went to the array
+abbrev pub HasStagedOne : CardState → CardState → Type 0
+HasStagedOne old new = new.store.cache ≡ record old.store.cache { lines = drop 1 old.store.cache.lines }
 
 -- a card that has no task, no phase and nothing switched on
 abbrev pub idle_card : (depth lines : ℕ) → Bool → Store → CardState

@@ -1,5 +1,5 @@
 -- Data phases: their blocks, and their end (JESD84-B51, section 6.6.39).
-use Rattle.std.specs.Prelude.{◌≡◌, ℕ, ◌+◌, ◌==◌, ◌&&◌, ◌||◌, Bool, true, false, not, if◌then◌else◌, nat_lt, Option, Some, None, Result, Ok, Err, MatchOption, OnOk, option_map, replicate}
+use Rattle.std.specs.Prelude.{◌≡◌, ℕ, ◌+◌, ◌==◌, ◌&&◌, ◌||◌, Bool, true, false, not, if◌then◌else◌, nat_lt, Option, Some, None, Result, Ok, Err, IfSome, MatchOption, OnOk, option_map, replicate}
 use Rattle.std.specs.Bool.{beq}
 use Rattle.std.specs.Option.{option_map_or}
 use Rattle.cmd_words.specs.declared.status.TheConstants.Status.{DEVICE_ECC_FAILED, ERROR}
@@ -8,6 +8,7 @@ use Rattle.storage_model.specs.declared.marks.Put.{Put}
 use Rattle.storage_model.specs.Keep.{is_named}
 use Rattle.array_edge.specs.Array.{ArrayState}
 use Rattle.intent_store.specs.declared.ends.StoreEnd.TheVariants.{Flash, PowerLost}
+use Rattle.card_store.specs.Staging.{HasRoom}
 use Rattle.card_store.specs.Store.{Reads, kept, same, with_put}
 use Rattle.card_core.specs.declared.ends.BlockEnd.{BlockEnd}
 use Rattle.card_core.specs.declared.ends.Dark.{Dark}
@@ -78,6 +79,10 @@ TakesIn block old old_array new new_array result =
 pub record HasRead (sector : ℕ) (value : Block) (old : CardState) (old_array : ArrayState) (new : CardState) (new_array : ArrayState) (result : Result (Unit {0}) BlockEnd) : Type 0 where
   pub block : OnOk result (Reads old.store old_array sector value)
   pub told : new_array.told ≡ old_array.told
+
+-- the cache has room for the block, or it is dropped
+abbrev pub FindsRoom : Block → CardState → Type 0
+FindsRoom block card = IfSome (phase_moving card false) (λ phase. HasRoom (next_put phase block) card.store.cache)
 
 -- A block went out: where a read waits to give it, it is the sector's value. Else it is zeros.
 abbrev pub GivesOut : Block → CardState → ArrayState → CardState → ArrayState → Result (Unit {0}) BlockEnd → Type 0

@@ -7,8 +7,8 @@ ghost use Rattle.card_store.specs.declared.ends.StageEnd.TheVariants.{Empty};
 ghost use Rattle.card_store.specs.Staging.{StageEnds};
 ghost use Rattle.card_store.specs.Store.{HasSector, HasSectors, IsOpen, IsSameStore, Reads, Stands, Turns, kept, same};
 ghost use Rattle.task_queue.specs.Queue.{addressed};
-ghost use Rattle.card_core.specs.Card.{HasPlace, HoldsNothing, blocks_of, idle_card, moved_blocks, sectors, set_up};
-ghost use Rattle.card_core.specs.Moving.{Finishes, GivesOut, TakesIn, finished, moved_on, phase_moving, write_to_keep};
+ghost use Rattle.card_core.specs.Card.{HasPlace, HasStagedOne, HoldsNothing, blocks_of, idle_card, moved_blocks, sectors, set_up};
+ghost use Rattle.card_core.specs.Moving.{Finishes, FindsRoom, GivesOut, TakesIn, finished, moved_on, phase_moving, write_to_keep};
 ghost use Rattle.card_core.specs.Response.{FlushCache, IsBarred, Responds, Tell, accepted, address_response, execute_response, if_queueing, is_poll, manage_response, params_response, poll_response, response_to, switch_response, with_direct};
 ghost use Rattle.card_core.specs.Serving.{block_end, word_end};
 
@@ -286,6 +286,7 @@ impl Card {
         requires open { IsOpen self.old.store (A.state array.old) }
         ensures open { IsOpen self.new.store (A.state array.new) }
         ensures block { TakesIn block.now self.old (A.state array.old) self.new (A.state array.new) result }
+        ensures deferred { FindsRoom block.now self.old → (result ≡ Ok tt) × (A.state array.new ≡ A.state array.old) }
         ensures ends { StoreEnds (A.state array.old) (A.state array.new) (block_end result) }
     {
         let Some(phase) = self.phase_moving(false) else {
@@ -407,6 +408,7 @@ impl Card {
         ensures open { IsOpen self.new.store (A.state array.new) }
         ensures card { self.new ≡ record self.old { store = self.new.store } }
         ensures store { IsSameStore self.old.store self.new.store }
+        ensures ok { OnOk result (HasStagedOne self.old self.new) }
         ensures empty { IsErrOf result Empty ↔ HoldsNothing self.old }
         ensures none { IsErrOf result Empty → A.state array.new ≡ A.state array.old }
         ensures turns { Turns same self.old.store (A.state array.old) self.new.store (A.state array.new) }
