@@ -1,10 +1,8 @@
 -- What is behind a link to a card: the card, its array, and the script of the bus.
-use Rattle.std.specs.Prelude.{◌≡◌, ℕ, ◌-◌, ◌^◌, ◌==◌}
-use Rattle.storage_model.specs.Count.{Count}
 use Rattle.array_edge.specs.Array.{ArrayState}
 use Rattle.card_store.specs.Store.{IsOpen}
 use Rattle.bus_link.specs.Link.{LinkState}
-use Rattle.bus_link.specs.Script.{Script}
+use Rattle.bus_link.specs.Script.{Script, bus_count}
 use Rattle.card_core.specs.Card.{CardState}
 
 pub record Behind : Type 0 where
@@ -18,10 +16,6 @@ behind card array script = record { card = card; array = array; script = script 
 -- the card was set up, and its image stands on the array
 abbrev pub Fits : Behind → Type 0
 Fits b = IsOpen b.card.store b.array
-
--- how often the bus failed: a counter of 64 bits stays at its last value
-abbrev pub bus_count : Script → Count
-bus_count script = record { value = script.faults; stands = (script.faults == 2 ^ 64 - 1) }
 
 -- the counts of bus, flash and cuts, and the power
 abbrev pub link_state : Behind → LinkState

@@ -1,7 +1,9 @@
 // The calls over the bus, with card, array and script apart.
-ghost use Rattle.std.specs.Prelude.{◌≡◌, false, IfOk, IfSome, Some};
+ghost use Rattle.std.specs.Prelude.{◌≡◌, false, Err, IfOk, IfSome, Some};
 ghost use Rattle.bus_link.specs.declared.link.LinkEnd.TheVariants.{Bus};
-ghost use Rattle.bus_link.specs.Script.{struck};
+ghost use Rattle.bus_link.specs.Script.{bus_count, struck};
+ghost use Rattle.storage_model.specs.Count.{Later, Rose};
+ghost use Rattle.storage_model.specs.declared.faults.BusKind.TheVariants.{Late};
 ghost use Rattle.bus_link.specs.Link.{LinkEnds, TellsFlash, is_poll};
 ghost use Rattle.card_link.specs.Behind.{Fits, behind, link_state};
 ghost use Rattle.card_link.specs.Made.{Closes, Exchanges, Gives, Takes, after_block, bad_block, block_seen, choice_of, heard};
@@ -53,6 +55,8 @@ fn choice_of(script: &mut ScriptLink, command: &Command) -> u32
 fn strike(script: &mut ScriptLink, kind: BusKind) -> LinkEnd
     requires { script.old.hit ≡ Some kind }
     ensures struck { script.new ≡ struck script.old }
+    ensures rose { Rose (bus_count script.old) (bus_count script.new) }
+    ensures later { Later (bus_count script.old) (bus_count script.new) }
     ensures end { result ≡ Bus kind }
 {
     script.strike();
@@ -113,6 +117,8 @@ fn bad_block(card: &Card, script: &ScriptLink) -> Option<BusKind>
 fn end_of_block(end: Result<(), BlockEnd>, script: &mut ScriptLink) -> Result<(), LinkEnd>
     ensures seen { result ≡ block_seen script.old.hit end }
     ensures after { script.new ≡ after_block script.old.hit end script.old }
+    ensures later { Later (bus_count script.old) (bus_count script.new) }
+    ensures rose { result ≡ Err (Bus Late) → Rose (bus_count script.old) (bus_count script.new) }
 {
     match end {
         Ok(()) => Ok(()),

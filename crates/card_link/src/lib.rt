@@ -6,3 +6,6 @@ mod calls;
 mod link;
 
 pub use link::CardLink;
+
+#[cfg(test)]
+mod tests;

@@ -1,6 +1,8 @@
 ghost use Rattle.std.specs.Prelude.{◌≡◌};
 ghost use Rattle.card_link.specs.Behind.{Fits, behind, link_state};
 ghost use Rattle.card_link.specs.Made.{CardMade};
+ghost use Rattle.std.proofs.Common.{rules};
+ghost use Rattle.std.proofs.lemmas.Grind.{common_steps};
 
 use crate::calls::{close, exchange, give, take};
 use array_edge::Array;
@@ -26,9 +28,9 @@ impl<'a, 'b, 'c, A: Array> Link for CardLink<'a, 'b, 'c, A> {
 
     ghost state = { λ l. link_state (behind l.card.now (A.state l.array.now) l.link.now) };
 
-    ghost kept = { λ _. (refl, refl, refl) };
+    ghost kept = { Prim.search (rules, common_steps) };
 
-    ghost kept_on = { ? };
+    ghost kept_on = { Prim.search (rules, common_steps) };
 
     fn exchange(&mut self, command: &Command) -> Result<u32, LinkEnd> {
         exchange(self.card, self.array, self.link, command)
