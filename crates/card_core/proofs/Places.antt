@@ -1,5 +1,5 @@
 -- The places of the queue.
-use Rattle.std.proofs.Common.{◌≡◌, ℕ, List, subst, sym, ◌∙◌}
+use Rattle.std.proofs.Common.{◌≡◌, ℕ, List, subst, ◌∙◌}
 use Rattle.std.specs.Prelude.{Option, None, slice_index_or, slice_set}
 use Rattle.std.proofs.lemmas.List.{set-set, set-get_or}
 
