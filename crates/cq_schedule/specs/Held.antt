@@ -15,7 +15,7 @@ abbrev pub Places : Type 0
 Places = List (Option HeldTask)
 
 -- the 32 slots
-abbrev pub slots : List ℕ
+unfoldable pub slots : List ℕ
 slots = range_with_len 0 32
 
 -- no task is held

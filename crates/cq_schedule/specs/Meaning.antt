@@ -10,10 +10,10 @@ use Rattle.cq_regs.specs.Slots.{has_bit, progress_of}
 use Rattle.cq_task.specs.declared.list.TaskList.{TaskList}
 use Rattle.cq_task.specs.declared.list.TheConstants.{WIDE_DESCRIPTORS, DIRECT_COMMANDS}
 use Rattle.cq_task.specs.Meaning.{HasBarrier}
-use Rattle.cq_schedule.specs.declared.held.HeldTask.{HeldTask}
 use Rattle.cq_schedule.specs.declared.rules.Due.{Due}
 use Rattle.cq_schedule.specs.declared.rules.Due.TheVariants.{Rest, Block, Close, Address, Serve, Execute, Poll, Tick}
-use Rattle.cq_schedule.specs.Held.{Places, held_at}
+use Rattle.cq_schedule.specs.Held.{Places}
+use Rattle.cq_schedule.specs.Holding.{IsHeld}
 use Rattle.cq_schedule.specs.Order.{order_of, first_at, first_high, has_flag, blocks_of, moved_of}
 
 -- the task descriptor list that the registers name
@@ -99,21 +99,6 @@ pub record IsDueThen (held : Places) (regs : Registers) (memory : Memory) (due :
 abbrev pub IsDue : Places → Registers → Memory → Due → Type 0
 IsDue held regs memory due =
     MatchOption (before_serving held regs) (IsDueThen held regs memory due) (λ first. due ≡ first)
-
--- whether a slot is named, and not complete
-abbrev pub is_begun : Progress → Bool
-is_begun Idle = false
-is_begun Rung = false
-is_begun _ = true
-
--- the engine holds the task of a slot, and left it as far as it is
-abbrev pub IsHeld : Places → Registers → ℕ → Type 0
-IsHeld held regs slot = IsSomeAnd (held_at held slot) (λ h. h.progress ≡ progress_of regs.ring slot)
-
--- while it isn't stopped, the engine holds the task of each slot that is named and not complete
-abbrev pub HoldsTasks : Places → Registers → Type 0
-HoldsTasks held regs =
-    regs.stopped ≡ false → (slot : ℕ) → slot < 32 → is_begun (progress_of regs.ring slot) ≡ true → IsHeld held regs slot
 
 -- a slot is so far, and its task is held
 pub record IsHeldAt (held : Places) (regs : Registers) (progress : Progress) (slot : ℕ) : Type 0 where

@@ -1,5 +1,7 @@
-ghost use Rattle.std.specs.Prelude.{◌≡◌, ◌<◌, None, Some, IfOk, length, slice_set};
+ghost use Rattle.std.specs.Prelude.{◌≡◌, ℕ, ◌<◌, None, Some, IfOk, length, slice_set};
 ghost use Rattle.std.specs.Option.{option_copied, option_map, IsSomeAnd};
+ghost use Rattle.cq_regs.specs.Slots.{progress_of};
+ghost use Rattle.cq_schedule.specs.Holding.{HasTasks, HoldsTasks};
 ghost use Rattle.cq_schedule.specs.Held.{held_at, kept, left_at, newly_held, none_held, noted, remembered, same, with_block, HasBlockLeft};
 
 use cq_regs::{Progress, Regs};
@@ -62,7 +64,9 @@ impl HeldTasks {
 
     /// Forgets the tasks of the slots that are not as far as the engine left them.
     pub fn forget(&mut self, regs: &Regs)
-        ensures { self.new ≡ remembered self.old regs.now }
+        ensures all { self.new ≡ remembered self.old regs.now }
+        ensures each { (slot : ℕ) → slot < 32 → held_at self.new slot ≡ kept (progress_of regs.now.ring slot) (held_at self.old slot) }
+        ensures holds { HoldsTasks self.old regs.now → HoldsTasks self.new regs.now }
     {
         forget(self.places.as_mut_slice(), regs);
     }
@@ -94,6 +98,7 @@ impl HeldTasks {
         ensures { self.new ≡ slice_set self.old slot (option_map with_block (held_at self.old slot)) }
     {
         if let Some(held) = &mut self.places[usize::from(slot)] {
+            prove!(held.moved < held.task.desc.blocks);
             held.moved += 1;
         }
     }
@@ -108,7 +113,9 @@ impl HeldTasks {
 
     /// Notes how far the slots of the tasks that are held have come: so far the engine leaves them.
     pub fn note(&mut self, regs: &Regs)
-        ensures { self.new ≡ noted self.old regs.now }
+        ensures all { self.new ≡ noted self.old regs.now }
+        ensures each { (slot : ℕ) → slot < 32 → held_at self.new slot ≡ left_at (progress_of regs.now.ring slot) (held_at self.old slot) }
+        ensures holds { HasTasks self.old regs.now → HoldsTasks self.new regs.now }
     {
         note(self.places.as_mut_slice(), regs);
     }
@@ -118,14 +125,16 @@ fn clear(places: &mut [Option<HeldTask>])
     requires { length places.old ≡ 32 }
     ensures { places.new ≡ none_held }
 {
-    for place in places.iter_mut() {
-        *place = None;
+    for slot in 0..SLOTS {
+        places[usize::from(slot)] = None;
     }
 }
 
 fn forget(places: &mut [Option<HeldTask>], regs: &Regs)
     requires { length places.old ≡ 32 }
-    ensures { places.new ≡ remembered places.old regs.now }
+    ensures all { places.new ≡ remembered places.old regs.now }
+    ensures each { (slot : ℕ) → slot < 32 → held_at places.new slot ≡ kept (progress_of regs.now.ring slot) (held_at places.old slot) }
+    ensures holds { HoldsTasks places.old regs.now → HoldsTasks places.new regs.now }
 {
     for slot in 0..SLOTS {
         keep_at(&mut places[usize::from(slot)], regs.progress(slot));
@@ -134,7 +143,9 @@ fn forget(places: &mut [Option<HeldTask>], regs: &Regs)
 
 fn note(places: &mut [Option<HeldTask>], regs: &Regs)
     requires { length places.old ≡ 32 }
-    ensures { places.new ≡ noted places.old regs.now }
+    ensures all { places.new ≡ noted places.old regs.now }
+    ensures each { (slot : ℕ) → slot < 32 → held_at places.new slot ≡ left_at (progress_of regs.now.ring slot) (held_at places.old slot) }
+    ensures holds { HasTasks places.old regs.now → HoldsTasks places.new regs.now }
 {
     for slot in 0..SLOTS {
         leave_at(&mut places[usize::from(slot)], regs.progress(slot));

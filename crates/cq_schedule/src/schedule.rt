@@ -3,8 +3,9 @@ ghost use Rattle.cq_regs.specs.declared.slots.Progress.TheVariants.{Ready, Rung}
 ghost use Rattle.cq_regs.specs.Slots.{progress_of};
 ghost use Rattle.cq_task.specs.Meaning.{HasBarrier};
 ghost use Rattle.cq_schedule.specs.Held.{same};
+ghost use Rattle.cq_schedule.specs.Holding.{HoldsTasks};
 ghost use Rattle.cq_schedule.specs.Order.{blocks_of, first_at, first_high, has_flag, is_high, moved_of, order_of};
-ghost use Rattle.cq_schedule.specs.Meaning.{after_serving, before_serving, list_of, next_of_phase, rests, HasItsSlot, HoldsTasks, IsDue, IsNextServed};
+ghost use Rattle.cq_schedule.specs.Meaning.{after_serving, before_serving, list_of, next_of_phase, rests, HasItsSlot, IsDue, IsNextServed};
 
 use crate::held::{HeldTasks, same};
 use crate::rules::Due;
@@ -68,7 +69,9 @@ fn first_at(regs: &Regs, progress: Progress) -> Option<u8>
     ensures below { IfSome result (λ slot. slot < 32) }
 {
     for k in 0..SLOTS {
-        let slot = slot_at(regs, k)?;
+        let Some(slot) = slot_at(regs, k) else {
+            return None;
+        };
         if same(regs.progress(slot), progress) {
             return Some(slot);
         }
@@ -83,7 +86,9 @@ fn first_high(held: &HeldTasks, regs: &Regs) -> Option<u8>
     ensures below { IfSome result (λ slot. slot < 32) }
 {
     for k in 0..SLOTS {
-        let slot = slot_at(regs, k)?;
+        let Some(slot) = slot_at(regs, k) else {
+            return None;
+        };
         if is_high_and_ready(held, regs, slot) {
             return Some(slot);
         }
@@ -151,7 +156,9 @@ fn next_served(held: &HeldTasks, regs: &Regs, mem: &HostMem) -> Option<u8>
     ensures below { IfSome result (λ slot. slot < 32) }
 {
     for k in 0..SLOTS {
-        let slot = slot_at(regs, k)?;
+        let Some(slot) = slot_at(regs, k) else {
+            return None;
+        };
         if same(regs.progress(slot), Progress::Rung) {
             if holds_itself_back(regs, mem, k, slot) {
                 return None;

@@ -1,0 +1,5 @@
+pub mod Filling
+pub mod Finding
+pub mod Serving
+pub mod Progresses
+pub mod HeldLaws
