@@ -1,7 +1,7 @@
-ghost use Rattle.std.specs.Prelude.{◌≡◌, ℕ, ◌<◌, None, Some, IfOk, length, slice_set};
+ghost use Rattle.std.specs.Prelude.{◌≡◌, ◌↔◌, ℕ, ◌<◌, true, None, Some, IfOk, IsTrue, length, slice_set};
 ghost use Rattle.std.specs.Option.{option_copied, option_map, IsSomeAnd};
 ghost use Rattle.cq_regs.specs.Slots.{progress_of};
-ghost use Rattle.cq_schedule.specs.Holding.{HasTasks, HoldsTasks};
+ghost use Rattle.cq_schedule.specs.Holding.{is_begun, HasTasks, HoldsTasks, IsHeld};
 ghost use Rattle.cq_schedule.specs.Held.{held_at, kept, left_at, newly_held, none_held, noted, remembered, same, with_block, HasBlockLeft};
 
 use cq_regs::{Progress, Regs};
@@ -111,6 +111,22 @@ impl HeldTasks {
         self.places[usize::from(slot)] = None;
     }
 
+    /// Whether the engine holds, while it isn't stopped, the task of each slot that is named and not complete, and left each
+    /// of them as far as its slot is.
+    pub fn holds_tasks(&self, regs: &Regs) -> bool
+        ensures { IsTrue result ↔ HoldsTasks self.now regs.now }
+    {
+        if regs.is_stopped() {
+            return true;
+        }
+        for slot in 0..SLOTS {
+            if !is_held_if_begun(self, regs, slot) {
+                return false;
+            }
+        }
+        true
+    }
+
     /// Notes how far the slots of the tasks that are held have come: so far the engine leaves them.
     pub fn note(&mut self, regs: &Regs)
         ensures all { self.new ≡ noted self.old regs.now }
@@ -174,9 +190,32 @@ fn leave_at(place: &mut Option<HeldTask>, progress: Progress)
     }
 }
 
+// Whether a slot needs no task, or its task is held and left as far as the slot is.
+fn is_held_if_begun(held: &HeldTasks, regs: &Regs, slot: u8) -> bool
+    requires { slot < 32 }
+    ensures { IsTrue result ↔ (is_begun (progress_of regs.now.ring slot) ≡ true → IsHeld held.now regs.now slot) }
+{
+    let progress = regs.progress(slot);
+    if !is_begun(progress) {
+        return true;
+    }
+    match held.get(slot) {
+        Some(h) => same(h.progress, progress),
+        None => false,
+    }
+}
+
+// Whether a slot is named, and not complete.
+fn is_begun(progress: Progress) -> bool
+    ensures { result ≡ is_begun progress }
+{
+    !matches!(progress, Progress::Idle | Progress::Rung)
+}
+
 // Whether two slots have come equally far.
 pub(crate) fn same(a: Progress, b: Progress) -> bool
-    ensures { result ≡ same a b }
+    ensures value { result ≡ same a b }
+    ensures equal { IsTrue result ↔ (a ≡ b) }
 {
     a == b
 }

@@ -1,5 +1,6 @@
 use Rattle.std.proofs.Common.{◌≡◌, ℕ, None, Bool, true, false, arith, sym, ap, ◌∙◌}
 use Rattle.std.specs.Prelude.{slice_get}
+use Rattle.std.proofs.lemmas.Bool.{false≢true}
 use Rattle.cq_regs.specs.declared.slots.Progress.TheVariants.{Rung}
 use Rattle.cq_regs.specs.Slots.{progress_of}
 use Rattle.cq_schedule.specs.Held.{same}
@@ -24,7 +25,7 @@ pub returns-then-same-clause-next : goal.returns-then-same-clause-next
 returns-then-same-clause-next c =
     served_here c.args.held.now c.args.regs.now c.args.mem.now c.loop-k.k c.in-Some.slot c.loop-k.invariant
     (sym c.slot_at.ensures.value ∙ c.in-Some.is) (sym c.progress.ensures ∙ same-true c.progress.result Rung (sym c.same.ensures ∙ c.if-same.true))
-    (λ bar. let held = c.holds_itself_back.ensures.1 bar in let free = c.if-holds_itself_back.false in ?)
+    (λ bar. false≢true (sym c.if-holds_itself_back.false ∙ c.holds_itself_back.ensures.1 bar))
 
 pub returns-then-has_flag-clause-next : goal.returns-then-has_flag-clause-next
 returns-then-has_flag-clause-next c =
