@@ -14,12 +14,12 @@ returns-in_default-clause-value c =
 pub returns-then-same-clause-value : goal.returns-then-same-clause-value
 returns-then-same-clause-value c =
     past_found (λ slot. same (progress_of c.args.regs.now.ring slot) c.args.progress) (order_of c.args.regs.now.ring) c.loop-k.k c.in-Some.slot c.loop-k.invariant
-    (sym c.slot_at.ensures.value ∙ c.in-Some.is) (rw (← c.progress.ensures) (sym c.same.ensures ∙ c.if-same.true))
+    (sym c.slot_at.ensures.value ∙ c.in-Some.is) (rw (← c.progress.ensures) (sym c.same.ensures.value ∙ c.if-same.true))
 
 pub loop-k-preserved : goal.loop-k-preserved
 loop-k-preserved c =
     past_more (λ slot. same (progress_of c.args.regs.now.ring slot) c.args.progress) (order_of c.args.regs.now.ring) c.loop-k.k c.in-Some.slot c.loop-k.invariant
-    (sym c.slot_at.ensures.value ∙ c.in-Some.is) (rw (← c.progress.ensures) (sym c.same.ensures ∙ c.if-same.false))
+    (sym c.slot_at.ensures.value ∙ c.in-Some.is) (rw (← c.progress.ensures) (sym c.same.ensures.value ∙ c.if-same.false))
 
 pub returns-clause-value : goal.returns-clause-value
 returns-clause-value c =

@@ -18,27 +18,27 @@ pub returns-then-holds_itself_back-clause-next : goal.returns-then-holds_itself_
 returns-then-holds_itself_back-clause-next c =
     let bar = c.holds_itself_back.ensures.0 c.if-holds_itself_back.true in
     none_behind_rung c.args.held.now c.args.regs.now c.args.mem.now c.loop-k.k c.in-Some.slot c.loop-k.invariant
-    (sym c.slot_at.ensures.value ∙ c.in-Some.is) (sym c.progress.ensures ∙ same-true c.progress.result Rung (sym c.same.ensures ∙ c.if-same.true))
+    (sym c.slot_at.ensures.value ∙ c.in-Some.is) (sym c.progress.ensures ∙ same-true c.progress.result Rung (sym c.same.ensures.value ∙ c.if-same.true))
     bar.0 bar.1
 
 pub returns-then-same-clause-next : goal.returns-then-same-clause-next
 returns-then-same-clause-next c =
     served_here c.args.held.now c.args.regs.now c.args.mem.now c.loop-k.k c.in-Some.slot c.loop-k.invariant
-    (sym c.slot_at.ensures.value ∙ c.in-Some.is) (sym c.progress.ensures ∙ same-true c.progress.result Rung (sym c.same.ensures ∙ c.if-same.true))
+    (sym c.slot_at.ensures.value ∙ c.in-Some.is) (sym c.progress.ensures ∙ same-true c.progress.result Rung (sym c.same.ensures.value ∙ c.if-same.true))
     (λ bar. false≢true (sym c.if-holds_itself_back.false ∙ c.holds_itself_back.ensures.1 bar))
 
 pub returns-then-has_flag-clause-next : goal.returns-then-has_flag-clause-next
 returns-then-has_flag-clause-next c =
     none_behind_served c.args.held.now c.args.regs.now c.args.mem.now c.loop-k.k c.in-Some.slot c.loop-k.invariant
     (sym c.slot_at.ensures.value ∙ c.in-Some.is)
-    (λ e. same-false c.progress.result Rung (sym c.same.ensures ∙ c.if-same.false) (c.progress.ensures ∙ e))
+    (λ e. same-false c.progress.result Rung (sym c.same.ensures.value ∙ c.if-same.false) (c.progress.ensures ∙ e))
     (sym c.has_flag.ensures ∙ c.if-has_flag.true)
 
 pub loop-k-preserved : goal.loop-k-preserved
 loop-k-preserved c =
     served_more c.args.held.now c.args.regs.now c.loop-k.k c.in-Some.slot c.loop-k.invariant
     (sym c.slot_at.ensures.value ∙ c.in-Some.is)
-    (λ e. same-false c.progress.result Rung (sym c.same.ensures ∙ c.if-same.false) (c.progress.ensures ∙ e))
+    (λ e. same-false c.progress.result Rung (sym c.same.ensures.value ∙ c.if-same.false) (c.progress.ensures ∙ e))
     (sym c.has_flag.ensures ∙ c.if-has_flag.false)
 
 pub returns-clause-next : goal.returns-clause-next
