@@ -1,5 +1,5 @@
 -- A loop that writes a function of its index into each of the places.
-use Rattle.std.proofs.Common.{◌≡◌, ◌≢◌, ℕ, ◌+◌, ◌<◌, ◌≤◌, map, length, get_or, set, refl, sym, ap, ◌∙◌, subst, ⊎_elim, arith}
+use Rattle.std.proofs.Common.{◌≡◌, ◌≢◌, ℕ, ◌+◌, ◌<◌, ◌≤◌, map, length, get_or, set, refl, ap, ◌∙◌, subst, ⊎_elim, arith}
 use Rattle.std.specs.Prelude.{Option, None}
 use Rattle.std.proofs.lemmas.Bool.{cases_lt}
 use Rattle.std.proofs.lemmas.List.{length-set, get_or-set_same, get_or-set_other, get_or_default}
@@ -36,8 +36,8 @@ filled_more f old places k below h =
       long = length-set places k (f k) ∙ h.long;
       done = λ j near. written f places k j inside h.done near;
       rest = λ j far.
-      let apart : j ≢ k = λ e. omega (arith, e) in
-      get_or-set_other places k j (f k) None apart ∙ h.rest j (omega arith);
+          let apart : j ≢ k = λ e. omega (arith, e) in
+          get_or-set_other places k j (f k) None apart ∙ h.rest j (omega arith);
     }
 
 pub filled_all : (f : ℕ → Option HeldTask) (old places : Places) → IsFilled f old places 32 → places ≡ map f slots

@@ -1,6 +1,6 @@
 -- The first slot of a list that passes a test, by a loop over its places.
 use Rattle.std.proofs.Common.{◌≡◌, ℕ, zero, suc, ◌+◌, ◌<◌, ◌≤◌, Bool, true, false, List, [], ◌∷◌, map, take, drop, refl, sym, ap, ◌∙◌, arith, add-one, length}
-use Rattle.std.specs.Prelude.{Option, Some, None, slice_get, cond}
+use Rattle.std.specs.Prelude.{Some, None, slice_get, cond}
 use Rattle.std.specs.List.{find}
 use Rattle.std.proofs.lemmas.Option.{none-some, same_Some, slice_get_past}
 use Rattle.std.specs.Option.{option_map}

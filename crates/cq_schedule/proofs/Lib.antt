@@ -3,3 +3,4 @@ pub mod Finding
 pub mod Serving
 pub mod Progresses
 pub mod HeldLaws
+pub mod OneDue

@@ -1,8 +1,8 @@
 -- Which slot is served next: the first rung slot decides.
-use Rattle.std.proofs.Common.{◌≡◌, ◌≢◌, ℕ, ◌+◌, ◌<◌, ◌≤◌, true, false, List, length, refl, sym, ap, ◌∙◌, subst, inl, inr, ⊎_elim, arith}
-use Rattle.std.specs.Prelude.{Option, Some, None, slice_get, ◌⊎◌}
+use Rattle.std.proofs.Common.{◌≡◌, ◌≢◌, ℕ, ◌+◌, ◌<◌, ◌≤◌, true, false, List, sym, ap, ◌∙◌, subst, inl, inr, ⊎_elim, arith}
+use Rattle.std.specs.Prelude.{Some, None, slice_get}
 use Rattle.std.proofs.lemmas.Bool.{cases_lt, false≢true}
-use Rattle.std.proofs.lemmas.Option.{none-some, same_Some, slice_get_within, slice_get_past, slice_get_cases}
+use Rattle.std.proofs.lemmas.Option.{none-some, same_Some, slice_get_past, slice_get_cases}
 use Rattle.host_mem.specs.Memory.{Memory}
 use Rattle.cq_regs.specs.declared.slots.Progress.TheVariants.{Rung}
 use Rattle.cq_regs.specs.State.{Registers}
@@ -10,7 +10,7 @@ use Rattle.cq_regs.specs.Slots.{progress_of}
 use Rattle.cq_task.specs.Meaning.{HasBarrier}
 use Rattle.cq_schedule.specs.Held.{Places}
 use Rattle.cq_schedule.specs.Order.{order_of, has_flag}
-use Rattle.cq_schedule.specs.Meaning.{list_of, IsAt, Bars, HasBarBefore, IsHeldBack, CanServe, NoneServedBefore, IsFirstServed, IsNextServed}
+use Rattle.cq_schedule.specs.Meaning.{list_of, IsAt, Bars, HasBarBefore, IsHeldBack, CanServe, NoneServedBefore, IsNextServed}
 
 -- each slot that was rung before the k-th is served already, with no queue barrier
 pub record AreServed (held : Places) (regs : Registers) (k : ℕ) : Type 0 where
@@ -27,13 +27,13 @@ pub served_more : (held : Places) (regs : Registers) (k slot : ℕ) → AreServe
     → progress_of regs.ring slot ≢ Rung → has_flag held slot ≡ false → AreServed held regs (k + 1)
 served_more held regs k slot h here apart clear = record {
   started = λ j other below at.
-  ⊎_elim (λ near. h.started j other near at)
-  (λ far. subst (λ s. progress_of regs.ring s ≢ Rung) (same_at regs j k slot other (omega arith) at here) apart)
-  (cases_lt j k);
+      ⊎_elim (λ near. h.started j other near at)
+      (λ far. subst (λ s. progress_of regs.ring s ≢ Rung) (same_at regs j k slot other (omega arith) at here) apart)
+      (cases_lt j k);
   clear = λ j other below at.
-  ⊎_elim (λ near. h.clear j other near at)
-  (λ far. subst (λ s. has_flag held s ≡ false) (same_at regs j k slot other (omega arith) at here) clear)
-  (cases_lt j k);
+      ⊎_elim (λ near. h.clear j other near at)
+      (λ far. subst (λ s. has_flag held s ≡ false) (same_at regs j k slot other (omega arith) at here) clear)
+      (cases_lt j k);
 }
 
 none_before : (held : Places) (regs : Registers) (memory : Memory) (k : ℕ) → AreServed held regs k → NoneServedBefore held regs memory k
@@ -47,11 +47,11 @@ none_at_end held regs memory k h past j slot can =
     (λ far. none-some slot (sym (beyond (order_of regs.ring) j k far past) ∙ can.is_at))
     (cases_lt j k)
   where
-  beyond : (xs : List ℕ) (j k : ℕ) → k ≤ j → slice_get xs k ≡ None → slice_get xs j ≡ None
-  beyond xs j k far past =
-    ⊎_elim (λ here. absurd (none-some here.0 (sym past ∙ here.2)))
-    (λ over. slice_get_past xs j (omega (arith, over.0)))
-    (slice_get_cases xs k).1
+    beyond : (xs : List ℕ) (j k : ℕ) → k ≤ j → slice_get xs k ≡ None → slice_get xs j ≡ None
+    beyond xs j k far past =
+        ⊎_elim (λ here. absurd (none-some here.0 (sym past ∙ here.2)))
+        (λ over. slice_get_past xs j (omega (arith, over.0)))
+        (slice_get_cases xs k).1
 
 -- at a slot with a queue barrier: it holds those that were rung later
 none_behind : (held : Places) (regs : Registers) (memory : Memory) (k slot : ℕ) → AreServed held regs k → IsAt regs k slot
@@ -95,10 +95,10 @@ served_here held regs memory k slot h here rung free = record {
     is_at = here;
     is_rung = rung;
     is_free = λ back.
-    ⊎_elim
-    (λ own. ⊎_elim (λ bar. free (own.0, bar.1)) (λ flagged. flagged.0 rung) own.1)
-    (λ earlier. bar_free held regs memory k h earlier)
-    back;
+        ⊎_elim
+        (λ own. ⊎_elim (λ bar. free (own.0, bar.1)) (λ flagged. flagged.0 rung) own.1)
+        (λ earlier. bar_free held regs memory k h earlier)
+        back;
   };
   first = none_before held regs memory k h;
 }

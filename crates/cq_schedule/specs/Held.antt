@@ -1,8 +1,7 @@
 -- The tasks that the engine holds: for each of the 32 slots what was read when the slot was served, with how far the slot
 -- was when the engine left it and how many of its blocks moved (JESD84-B51, annex B).
-use Rattle.std.specs.Prelude.{◌≡◌, ℕ, ◌+◌, ◌<◌, Bool, true, false, List, map, Option, Some, None, replicate, slice_index_or, if◌then◌else◌}
+use Rattle.std.specs.Prelude.{ℕ, ◌+◌, ◌<◌, Bool, true, false, List, map, Option, Some, None, replicate, slice_index_or, if◌then◌else◌}
 use Rattle.std.specs.List.{range_with_len}
-use Rattle.std.specs.Option.{option_map, option_map_or, IsSomeAnd}
 use Rattle.cq_regs.specs.declared.slots.Progress.{Progress}
 use Rattle.cq_regs.specs.declared.slots.Progress.TheVariants.{Idle, Rung, Named, Sent, Ready, Active}
 use Rattle.cq_regs.specs.State.{Registers}

@@ -1,10 +1,10 @@
 -- What the engine does next: of these rules the first that applies (host interface annex of JESD84-B51).
-use Rattle.std.specs.Prelude.{◌≡◌, ◌≢◌, ℕ, ◌+◌, ◌*◌, ◌^◌, ◌<◌, ◌≤◌, ◌||◌, ◌⊎◌, nat_lt, Bool, true, false, not, Option, Some, None, slice_get, if◌then◌else◌}
-use Rattle.std.specs.Option.{option_map, option_map_or, IsSomeAnd, MatchOption}
+use Rattle.std.specs.Prelude.{◌≡◌, ◌≢◌, ℕ, ◌+◌, ◌*◌, ◌^◌, ◌<◌, ◌≤◌, ◌||◌, ◌⊎◌, nat_lt, Bool, true, not, Option, Some, None, slice_get, if◌then◌else◌}
+use Rattle.std.specs.Option.{option_map, option_map_or, MatchOption}
 use Rattle.host_mem.specs.Memory.{Memory}
 use Rattle.cq_words.specs.Table.{is_set}
 use Rattle.cq_regs.specs.declared.slots.Progress.{Progress}
-use Rattle.cq_regs.specs.declared.slots.Progress.TheVariants.{Idle, Rung, Named, Sent, Ready, Active}
+use Rattle.cq_regs.specs.declared.slots.Progress.TheVariants.{Rung, Named, Sent, Ready, Active}
 use Rattle.cq_regs.specs.State.{Registers}
 use Rattle.cq_regs.specs.Slots.{has_bit, progress_of}
 use Rattle.cq_task.specs.declared.list.TaskList.{TaskList}

@@ -1,13 +1,11 @@
 -- The slots in order of ringing, and what the engine holds of them.
-use Rattle.std.specs.Prelude.{◌≡◌, ◌≢◌, ℕ, ◌<◌, ◌&&◌, Bool, true, false, List, map, take, Option, Some, slice_get}
+use Rattle.std.specs.Prelude.{ℕ, ◌&&◌, Bool, false, List, map, take, Option}
 use Rattle.std.specs.List.{find}
-use Rattle.std.specs.Option.{option_map_or, IsSomeAnd}
+use Rattle.std.specs.Option.{option_map_or}
 use Rattle.cq_regs.specs.declared.slots.Progress.{Progress}
-use Rattle.cq_regs.specs.declared.slots.Progress.TheVariants.{Named, Sent, Ready, Active}
+use Rattle.cq_regs.specs.declared.slots.Progress.TheVariants.{Ready}
 use Rattle.cq_regs.specs.declared.slots.Ringed.{Ringed}
-use Rattle.cq_regs.specs.State.{Registers}
 use Rattle.cq_regs.specs.Slots.{progress_of}
-use Rattle.cq_schedule.specs.declared.held.HeldTask.{HeldTask}
 use Rattle.cq_schedule.specs.Held.{Places, held_at, same}
 
 -- the slots that are rung, in order of ringing: no more than there are slots

@@ -38,8 +38,6 @@ impl Model for HeldTasks {
 }
 
 impl HeldTasks {
-    
-
     /// No task is held. Takes all the memory that holding tasks needs.
     ///
     /// # Errors

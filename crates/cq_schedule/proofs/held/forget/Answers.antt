@@ -1,7 +1,5 @@
-use Rattle.std.proofs.Common.{◌≡◌, ℕ, arith, subst, ap, sym, ◌∙◌}
-use Rattle.std.specs.Prelude.{Option}
+use Rattle.std.proofs.Common.{arith, subst, ap}
 use Rattle.cq_regs.specs.Slots.{progress_of}
-use Rattle.cq_schedule.specs.declared.held.HeldTask.{HeldTask}
 use Rattle.cq_schedule.specs.Held.{held_at, kept}
 use Rattle.cq_schedule.proofs.Filling.{IsFilled, filled_all, filled_write}
 use Rattle.cq_schedule.proofs.HeldLaws.{HoldsTasks-remembered}

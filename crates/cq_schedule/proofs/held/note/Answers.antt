@@ -1,7 +1,5 @@
-use Rattle.std.proofs.Common.{◌≡◌, ℕ, arith, subst, ap, sym, ◌∙◌}
-use Rattle.std.specs.Prelude.{Option}
+use Rattle.std.proofs.Common.{arith, subst}
 use Rattle.cq_regs.specs.Slots.{progress_of}
-use Rattle.cq_schedule.specs.declared.held.HeldTask.{HeldTask}
 use Rattle.cq_schedule.specs.Held.{held_at, left_at}
 use Rattle.cq_schedule.proofs.Filling.{IsFilled, filled_all}
 use Rattle.cq_schedule.proofs.HeldLaws.{HoldsTasks-noted}

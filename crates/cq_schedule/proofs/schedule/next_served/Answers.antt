@@ -1,9 +1,7 @@
-use Rattle.std.proofs.Common.{◌≡◌, ℕ, None, Bool, true, false, arith, sym, ap, ◌∙◌}
+use Rattle.std.proofs.Common.{◌≡◌, arith, sym, ap, ◌∙◌}
 use Rattle.std.specs.Prelude.{slice_get}
 use Rattle.std.proofs.lemmas.Bool.{false≢true}
 use Rattle.cq_regs.specs.declared.slots.Progress.TheVariants.{Rung}
-use Rattle.cq_regs.specs.Slots.{progress_of}
-use Rattle.cq_schedule.specs.Held.{same}
 use Rattle.cq_schedule.specs.Order.{order_of}
 use Rattle.cq_schedule.proofs.Finding.{order_ends}
 use Rattle.cq_schedule.proofs.Progresses.{same-true, same-false}
