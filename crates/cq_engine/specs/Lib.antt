@@ -1,0 +1,5 @@
+pub mod Words
+pub mod Outcome
+pub mod After
+pub mod Event
+pub mod Ends
