@@ -1,6 +1,6 @@
 -- The data of a task: the bytes of its pieces one after the other (JESD84-B51, annex B). Block k of it is the 512 bytes from
 -- byte 512 k on.
-use Rattle.std.specs.Prelude.{ℕ, ◌+◌, ◌-◌, ◌*◌, min, List, [], ◌∷◌, length, take, drop}
+use Rattle.std.specs.Prelude.{ℕ, ◌+◌, ◌-◌, ◌*◌, min, List, [], ◌∷◌, take, drop}
 use Rattle.std.specs.List.{flat_map}
 use Rattle.host_mem.specs.Memory.{Memory, bytes_of, with_bytes}
 use Rattle.storage_model.specs.declared.block.Block.{Block}

@@ -1,8 +1,8 @@
-ghost use Rattle.std.specs.Prelude.{◌≡◌, ◌≢◌, ◌+◌, ◌-◌, ◌*◌, ◌≤◌, ℕ, length, take, drop};
+ghost use Rattle.std.specs.Prelude.{◌≡◌, ◌≢◌, ◌+◌, ◌-◌, ◌*◌, ◌≤◌, ℕ, length, min, take, drop};
 ghost use Rattle.host_mem.specs.Memory.{HasRange, bytes_of, with_bytes};
 ghost use Rattle.cq_chain.specs.Descriptors.{AreInside, bytes_in};
 ghost use Rattle.piece_data.specs.Data.{block_of, bytes_at, parts, scatter, with_block};
-ghost use Rattle.piece_data.specs.Laws.{AreApart, HasSameSpace, KeepsOthers};
+ghost use Rattle.piece_data.specs.Laws.{AreApart, ChangesBlock, HasSameSpace, KeepsOthers};
 
 use cq_chain::Piece;
 use host_mem::HostMem;
@@ -26,6 +26,9 @@ pub fn write_block(mem: &mut HostMem, pieces: &[Piece], k: u16, block: &Block)
     requires inside { AreInside mem.old pieces.now }
     requires whole { 512 * (k + 1) ≤ bytes_in pieces.now }
     ensures written { mem.new ≡ with_block mem.old pieces.now k block.now }
+    ensures space { HasSameSpace mem.old mem.new }
+    ensures others { KeepsOthers (parts pieces.now (512 * k) 512) mem.old mem.new }
+    ensures blocks { AreApart pieces.now → ChangesBlock pieces.now mem.old mem.new k block.now }
 {
     scatter(mem, pieces, BLOCK_BYTES * u32::from(k), &block.0);
 }

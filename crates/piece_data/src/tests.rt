@@ -9,9 +9,18 @@ fn a_block_over_three_pieces(rt: HostRuntime) {
         panic!(rt; "no memory");
     };
     let pieces = [
-        Piece { at: 0x2000_0800, len: 7 },
-        Piece { at: 0x2000_0000, len: 501 },
-        Piece { at: 0x2000_0403, len: 516 },
+        Piece {
+            at: 0x2000_0800,
+            len: 7,
+        },
+        Piece {
+            at: 0x2000_0000,
+            len: 501,
+        },
+        Piece {
+            at: 0x2000_0403,
+            len: 516,
+        },
     ];
     let mut block = Block([0; 512]);
     block.0[0] = 1;
@@ -46,8 +55,14 @@ fn the_later_of_two_pieces_that_overlap(rt: HostRuntime) {
         panic!(rt; "no memory");
     };
     let pieces = [
-        Piece { at: 0x2000_0000, len: 256 },
-        Piece { at: 0x2000_00ff, len: 256 },
+        Piece {
+            at: 0x2000_0000,
+            len: 256,
+        },
+        Piece {
+            at: 0x2000_00ff,
+            len: 256,
+        },
     ];
     let mut block = Block([0; 512]);
     block.0[255] = 1;
