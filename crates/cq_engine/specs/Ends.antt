@@ -28,8 +28,8 @@ StopsFor answer (Response word slot) = (answer ≡ Ok word) ⊎ (answer ≡ Err 
 StopsFor answer NoPower = answer ≡ Err Dark
 
 -- the link was used as it may be: what it borrows is the same, it fits what is behind it, and its counts explain a stop
-pub record Uses {L : Type 0} (keeps : L → L → Type 0) (fits : L → Type 0) (state : L → LinkState) (old new : L) (stop : Option Cause)
+pub record Uses {L : Type 0} (Keeps : L → L → Type 0) (Fits : L → Type 0) (state_of : L → LinkState) (old new : L) (stop : Option Cause)
     : Type 0 where
-  pub keeps : keeps old new
-  pub fits : fits new
-  pub ends : EventEnds (state old) (state new) stop
+  pub keeps : Keeps old new
+  pub fits : Fits new
+  pub ends : EventEnds (state_of old) (state_of new) stop

@@ -1,6 +1,6 @@
 -- An event of the engine: what is due, the one call of the link that it makes, and what its answer leads to (host interface
 -- annex of JESD84-B51).
-use Rattle.std.specs.Prelude.{◌≡◌, ℕ, List, Option, Some, Result, Ok, Err}
+use Rattle.std.specs.Prelude.{◌≡◌, ℕ, ◌*◌, List, Option, Some, Result, Ok, Err}
 use Rattle.std.specs.Bool.{MatchBool}
 use Rattle.std.specs.Option.{IsSomeAnd, option_or}
 use Rattle.storage_model.specs.declared.block.Block.{Block}
@@ -19,11 +19,12 @@ use Rattle.cq_task.specs.declared.slot.SlotTask.{SlotTask}
 use Rattle.cq_task.specs.declared.slot.SlotTask.TheVariants.{Direct, Data}
 use Rattle.cq_task.specs.Meaning.{Means}
 use Rattle.cq_schedule.specs.declared.held.HeldTask.{HeldTask}
-use Rattle.cq_schedule.specs.declared.schedule.Due.{Due}
-use Rattle.cq_schedule.specs.declared.schedule.Due.TheVariants.{Rest, Block as NextBlock, Close, Address, Serve, Execute, Poll, Tick}
+use Rattle.cq_schedule.specs.declared.rules.Due.{Due}
+use Rattle.cq_schedule.specs.declared.rules.Due.TheVariants.{Rest, Block as NextBlock, Close, Address, Serve, Execute, Poll, Tick}
 use Rattle.cq_schedule.specs.Held.{held_at, noted, remembered}
 use Rattle.cq_schedule.specs.Meaning.{IsDue, list_of}
-use Rattle.piece_data.specs.Data.{block_of, with_block}
+use Rattle.piece_data.specs.Data.{block_of, parts, with_block}
+use Rattle.piece_data.specs.Laws.{HasSameSpace, KeepsOthers}
 use Rattle.cq_engine.specs.declared.did.Did.{Did}
 use Rattle.cq_engine.specs.declared.did.Did.TheVariants.{Idle}
 use Rattle.cq_engine.specs.Words.{direct_of, execute_of, params_of, poll_of}
@@ -31,23 +32,23 @@ use Rattle.cq_engine.specs.Outcome.{Holding, Host, Outcome, stop_of, with_regs}
 use Rattle.cq_engine.specs.After.{after_address, after_block, after_close, after_direct, after_execute, after_params, after_poll, dropped}
 
 -- nothing crossed the link
-pub record Silent {L : Type 0} (old new : L) (outcome after : Outcome) : Type 0 where
+pub record Silent {L : Type 0} (old new : L) (left after : Outcome) : Type 0 where
   pub link : new ≡ old
-  pub outcome : outcome ≡ after
+  pub outcome : left ≡ after
 
 -- a command crossed the link, and its answer led on
-pub record Exchanges {L : Type 0} (made : L → Call → L → Type 0) (old new : L) (command : Command) (outcome : Outcome)
+pub record Exchanges {L : Type 0} (made : L → Call → L → Type 0) (old new : L) (command : Command) (left : Outcome)
     (after : Result ℕ LinkEnd → Outcome) : Type 0 where
   pub answer : Result ℕ LinkEnd
   pub crossed : made old (Exchanged command answer) new
-  pub outcome : outcome ≡ after answer
+  pub outcome : left ≡ after answer
 
 -- a block was written, and the answer led on
-pub record Gives {L : Type 0} (made : L → Call → L → Type 0) (old new : L) (block : Block) (outcome : Outcome)
+pub record Gives {L : Type 0} (made : L → Call → L → Type 0) (old new : L) (block : Block) (left : Outcome)
     (after : Result (Unit {0}) LinkEnd → Outcome) : Type 0 where
   pub answer : Result (Unit {0}) LinkEnd
   pub crossed : made old (Gave block answer) new
-  pub outcome : outcome ≡ after answer
+  pub outcome : left ≡ after answer
 
 -- the memory after a block was read into pieces: none of it is written where the call has no block
 abbrev pub read_into : Memory → List Piece → (k : ℕ) → Block → Result (Unit {0}) LinkEnd → Memory
@@ -56,19 +57,21 @@ read_into memory pieces k block (Err end) = memory
 
 -- a block was read into the pieces, and the answer led on
 pub record Takes {L : Type 0} (made : L → Call → L → Type 0) (old new : L) (pieces : List Piece) (k : ℕ) (memory memory' : Memory)
-    (outcome : Outcome) (after : Result (Unit {0}) LinkEnd → Outcome) : Type 0 where
+    (left : Outcome) (after : Result (Unit {0}) LinkEnd → Outcome) : Type 0 where
   pub block : Block
   pub answer : Result (Unit {0}) LinkEnd
   pub crossed : made old (Took block answer) new
   pub written : memory' ≡ read_into memory pieces k block answer
-  pub outcome : outcome ≡ after answer
+  pub space : HasSameSpace memory memory'
+  pub others : KeepsOthers (parts pieces (512 * k) 512) memory memory'
+  pub outcome : left ≡ after answer
 
 -- a data phase was ended, and its word led on
-pub record Closes {L : Type 0} (made : L → Call → L → Type 0) (old new : L) (outcome : Outcome) (after : Result ℕ LinkEnd → Outcome)
+pub record Closes {L : Type 0} (made : L → Call → L → Type 0) (old new : L) (left : Outcome) (after : Result ℕ LinkEnd → Outcome)
     : Type 0 where
   pub answer : Result ℕ LinkEnd
   pub crossed : made old (Closed answer) new
-  pub outcome : outcome ≡ after answer
+  pub outcome : left ≡ after answer
 
 -- a slot is served by what it means
 abbrev pub Serves : {L : Type 0} → (L → Call → L → Type 0) → (old new : L) → Host → ℕ → Outcome → Result SlotTask DropCause → Type 0
@@ -130,5 +133,5 @@ pub record Event {L : Type 0} (made : L → Call → L → Type 0) (old new : L)
     (memory memory' : Memory) (did : Did) : Type 0 where
   pub left : Host
   pub acts : Acts made old new (record { held = remembered engine.held regs; regs = regs }) memory memory' (record { did = did; host = left })
-  pub regs : regs' ≡ left.regs
-  pub engine : engine' ≡ kept_by engine (record { did = did; host = left })
+  pub registers : regs' ≡ left.regs
+  pub keeps : engine' ≡ kept_by engine (record { did = did; host = left })

@@ -3,3 +3,4 @@ pub mod Outcome
 pub mod After
 pub mod Event
 pub mod Ends
+pub mod Holds

@@ -1,8 +1,16 @@
 //! The one call of the link in each kind of event.
-ghost use Rattle.std.specs.Prelude.{◌≡◌, ◌<◌, ◌*◌, true, false, IsSome, IfSome};
+ghost use Rattle.std.specs.Prelude.{◌≡◌, ◌<◌, ◌*◌, true, false, IsSome};
+ghost use Rattle.std.specs.Option.{IsSomeAnd};
+ghost use Rattle.cmd_words.specs.declared.command.Command.TheVariants.{Address};
+ghost use Rattle.cq_regs.specs.declared.slots.Progress.TheVariants.{Named, Ready, Rung};
+ghost use Rattle.cq_regs.specs.Slots.{progress_of};
+ghost use Rattle.cq_schedule.specs.Held.{held_at, Places};
+ghost use Rattle.cq_schedule.specs.Meaning.{list_of};
+ghost use Rattle.piece_data.specs.Data.{block_of};
 ghost use Rattle.cq_engine.specs.After.{after_address, after_block, after_close, after_direct, after_execute, after_params, after_poll};
 ghost use Rattle.cq_engine.specs.Ends.{Uses};
-ghost use Rattle.cq_engine.specs.Event.{Closes, Exchanges, Gives, Takes};
+ghost use Rattle.cq_engine.specs.Event.{Closes, Exchanges, Gives, IsServed, MovesBlock, Takes};
+ghost use Rattle.cq_engine.specs.Holds.{IsNextBlock};
 ghost use Rattle.cq_engine.specs.Outcome.{host_of, outcome_of, stop_of};
 ghost use Rattle.cq_engine.specs.Words.{direct_of, execute_of, params_of, poll_of};
 
@@ -31,6 +39,10 @@ pub(crate) fn serve<L: Link>(
     slot: u8,
 ) -> Did
     requires fits { L.fits link.old }
+    requires below { slot < 32 }
+    requires rung { progress_of regs.old.ring slot ≡ Rung }
+    ensures serves { IsServed L.made link.old link.new (host_of held.old regs.old) mem.now slot (outcome_of result held.new regs.new) }
+    ensures uses { Uses L.keeps L.fits L.state link.old link.new (stop_of result) }
 {
     match read_slot(mem, list_of(regs), slot) {
         Ok(SlotTask::Direct(desc)) => send_direct(regs, link, slot, &desc),
@@ -41,6 +53,9 @@ pub(crate) fn serve<L: Link>(
 
 fn send_direct<L: Link>(regs: &mut Regs, link: &mut L, slot: u8, desc: &DirectDesc) -> Did
     requires fits { L.fits link.old }
+    requires below { slot < 32 }
+    ensures sends { (held : Places) → Exchanges L.made link.old link.new (direct_of desc.now) (outcome_of result held regs.new) (after_direct (host_of held regs.old) slot desc.now) }
+    ensures uses { Uses L.keeps L.fits L.state link.old link.new (stop_of result) }
 {
     let answer = link.exchange(&direct_of(desc));
     after_direct(regs, slot, desc, answer)
@@ -54,6 +69,10 @@ fn send_params<L: Link>(
     task: DataTask,
 ) -> Did
     requires fits { L.fits link.old }
+    requires below { slot < 32 }
+    requires rung { progress_of regs.old.ring slot ≡ Rung }
+    ensures sends { Exchanges L.made link.old link.new (params_of slot task.desc) (outcome_of result held.new regs.new) (after_params (host_of held.old regs.old) slot task) }
+    ensures uses { Uses L.keeps L.fits L.state link.old link.new (stop_of result) }
 {
     let answer = link.exchange(&params_of(slot, &task.desc));
     after_params(held, regs, slot, task, answer)
@@ -61,16 +80,19 @@ fn send_params<L: Link>(
 
 /// Sends CMD45 of the task of a slot.
 pub(crate) fn send_address<L: Link>(
-    held: &HeldTasks,
     regs: &mut Regs,
     link: &mut L,
     slot: u8,
+    desc: &TaskDesc,
 ) -> Did
     requires fits { L.fits link.old }
+    requires below { slot < 32 }
+    requires named { progress_of regs.old.ring slot ≡ Named }
+    ensures sends { (held : Places) → Exchanges L.made link.old link.new (Address desc.now.start) (outcome_of result held regs.new) (after_address (host_of held regs.old) slot desc.now) }
+    ensures uses { Uses L.keeps L.fits L.state link.old link.new (stop_of result) }
 {
-    let desc = desc_of(held, slot);
     let answer = link.exchange(&Command::Address(desc.start));
-    after_address(regs, slot, &desc, answer)
+    after_address(regs, slot, desc, answer)
 }
 
 /// Sends CMD46 or CMD47 of the task of a slot.
@@ -79,29 +101,43 @@ pub(crate) fn send_execute<L: Link>(
     regs: &mut Regs,
     link: &mut L,
     slot: u8,
+    desc: &TaskDesc,
 ) -> Did
     requires fits { L.fits link.old }
+    requires below { slot < 32 }
+    requires ready { progress_of regs.old.ring slot ≡ Ready }
+    ensures sends { Exchanges L.made link.old link.new (execute_of slot desc.now) (outcome_of result held.new regs.new) (after_execute (host_of held.old regs.old) slot desc.now) }
+    ensures uses { Uses L.keeps L.fits L.state link.old link.new (stop_of result) }
 {
-    let desc = desc_of(held, slot);
-    let answer = link.exchange(&execute_of(slot, &desc));
-    after_execute(held, regs, slot, &desc, answer)
+    let answer = link.exchange(&execute_of(slot, desc));
+    after_execute(held, regs, slot, desc, answer)
 }
 
 /// Asks for the queue status word.
 pub(crate) fn send_poll<L: Link>(regs: &mut Regs, link: &mut L) -> Did
     requires fits { L.fits link.old }
+    ensures sends { (held : Places) → Exchanges L.made link.old link.new (poll_of regs.old) (outcome_of result held regs.new) (after_poll (host_of held regs.old)) }
+    ensures uses { Uses L.keeps L.fits L.state link.old link.new (stop_of result) }
 {
     let answer = link.exchange(&poll_of(regs));
     after_poll(regs, answer)
 }
 
 /// Ends the data phase of a slot.
-pub(crate) fn close<L: Link>(held: &mut HeldTasks, regs: &mut Regs, link: &mut L, slot: u8) -> Did
+pub(crate) fn close<L: Link>(
+    held: &mut HeldTasks,
+    regs: &mut Regs,
+    link: &mut L,
+    slot: u8,
+    desc: &TaskDesc,
+) -> Did
     requires fits { L.fits link.old }
+    requires below { slot < 32 }
+    ensures closes { Closes L.made link.old link.new (outcome_of result held.new regs.new) (after_close (host_of held.old regs.old) slot desc.now) }
+    ensures uses { Uses L.keeps L.fits L.state link.old link.new (stop_of result) }
 {
-    let desc = desc_of(held, slot);
     let answer = link.close();
-    after_close(held, regs, slot, &desc, answer)
+    after_close(held, regs, slot, desc, answer)
 }
 
 /// Moves a block of the data phase of a slot.
@@ -114,6 +150,10 @@ pub(crate) fn move_block<L: Link>(
     k: u16,
 ) -> Did
     requires fits { L.fits link.old }
+    requires below { slot < 32 }
+    requires next { IsSomeAnd (held_at held.old slot) (IsNextBlock mem.old k) }
+    ensures moves { IsSomeAnd (held_at held.old slot) (λ h. MovesBlock L.made link.old link.new (host_of held.old regs.old) mem.old mem.new slot k (outcome_of result held.new regs.new) h.task) }
+    ensures uses { Uses L.keeps L.fits L.state link.old link.new (stop_of result) }
 {
     if desc_of(held, slot).read {
         take_block(held, regs, mem, link, slot, k)
@@ -131,6 +171,10 @@ fn give_block<L: Link>(
     k: u16,
 ) -> Did
     requires fits { L.fits link.old }
+    requires below { slot < 32 }
+    requires next { IsSomeAnd (held_at held.old slot) (IsNextBlock mem.now k) }
+    ensures gives { IsSomeAnd (held_at held.old slot) (λ h. Gives L.made link.old link.new (block_of mem.now h.task.pieces k) (outcome_of result held.new regs.new) (after_block (host_of held.old regs.old) slot h.task.desc)) }
+    ensures uses { Uses L.keeps L.fits L.state link.old link.new (stop_of result) }
 {
     let mut block = Block([0; 512]);
     let desc = match held.get(slot) {
@@ -153,6 +197,10 @@ fn take_block<L: Link>(
     k: u16,
 ) -> Did
     requires fits { L.fits link.old }
+    requires below { slot < 32 }
+    requires next { IsSomeAnd (held_at held.old slot) (IsNextBlock mem.old k) }
+    ensures takes { IsSomeAnd (held_at held.old slot) (λ h. Takes L.made link.old link.new h.task.pieces k mem.old mem.new (outcome_of result held.new regs.new) (after_block (host_of held.old regs.old) slot h.task.desc)) }
+    ensures uses { Uses L.keeps L.fits L.state link.old link.new (stop_of result) }
 {
     let mut block = Block([0; 512]);
     let answer = link.take(&mut block);
@@ -168,8 +216,12 @@ fn take_block<L: Link>(
     after_block(held, regs, slot, &desc, answer)
 }
 
-// The descriptor of the task that is held of a slot.
-fn desc_of(held: &HeldTasks, slot: u8) -> TaskDesc {
+/// The descriptor of the task that is held of a slot.
+pub(crate) fn desc_of(held: &HeldTasks, slot: u8) -> TaskDesc
+    requires below { slot < 32 }
+    requires is_held { IsSome (held_at held.now slot) }
+    ensures { IsSomeAnd (held_at held.now slot) (λ h. h.task.desc ≡ result) }
+{
     match held.get(slot) {
         Some(held) => held.task.desc,
         None => unreachable!(),

@@ -1,12 +1,18 @@
 //! What the answer of each call of the link does to the tasks that are held and to the registers.
-ghost use Rattle.std.specs.Prelude.{◌≡◌, ◌<◌, Some, IfErr, IfSome};
+ghost use Rattle.std.specs.Prelude.{◌≡◌, ◌<◌, ◌&&◌, not, Some, IfErr, IfSome};
 ghost use Rattle.std.specs.Option.{IsSomeAnd};
 ghost use Rattle.cq_regs.specs.declared.slots.Progress.TheVariants.{Named, Ready, Rung};
+ghost use Rattle.bus_link.specs.declared.link.Cause.TheVariants.{Response};
+ghost use Rattle.bus_link.specs.Link.{is_poll};
+ghost use Rattle.cmd_words.specs.Command.{index_of};
+ghost use Rattle.cq_regs.specs.Effects.{completed};
 ghost use Rattle.cq_regs.specs.Slots.{progress_of};
+ghost use Rattle.cq_engine.specs.declared.did.Did.TheVariants.{Direct, Finished, Stopped};
 ghost use Rattle.cq_schedule.specs.Held.{held_at, HasBlockLeft, Places};
-ghost use Rattle.cq_engine.specs.After.{after_address, after_block, after_close, after_direct, after_execute, after_params, after_poll, direct_done, direct_heard, dropped, executed, finished, phase_ended};
+ghost use Rattle.cq_engine.specs.After.{after_address, after_block, after_close, after_direct, after_execute, after_params, after_poll, direct_ended, direct_heard, dropped, executed, finished, phase_ended};
 ghost use Rattle.cq_engine.specs.Ends.{StopsFor};
-ghost use Rattle.cq_engine.specs.Outcome.{heard, host_of, judged, outcome_of, stop, stop_of, stopped_with, word_in};
+ghost use Rattle.cq_engine.specs.Outcome.{heard, host_of, judged, outcome_of, stop_of, stopped_with, word_in};
+ghost use Rattle.cq_engine.specs.Words.{is_masked};
 
 use crate::Did;
 use crate::words::{
@@ -128,12 +134,23 @@ pub(crate) fn after_direct(
     ensures stops { IfSome (stop_of result) (StopsFor answer) }
 {
     match word_in(answer, Some(slot)) {
-        Ok(_) if desc.resp == 0 => complete_direct(regs, slot, desc),
-        Ok(word) => hear_direct(regs, slot, desc, word),
+        Ok(word) => end_direct(regs, slot, desc, word),
         Err(cause) => {
             let index = direct_of(desc).encode().0;
             stop(regs, command_error(index, slot), cause)
         }
+    }
+}
+
+fn end_direct(regs: &mut Regs, slot: u8, desc: &DirectDesc, word: u32) -> Did
+    requires below { slot < 32 }
+    ensures after { (held : Places) → outcome_of result held regs.new ≡ direct_ended (host_of held regs.old) slot desc.now (Ok word) }
+    ensures stops { IfSome (stop_of result) (λ cause. cause ≡ Response word slot) }
+{
+    if desc.resp == 0 {
+        complete_direct(regs, slot, desc)
+    } else {
+        hear_direct(regs, slot, desc, word)
     }
 }
 
@@ -147,7 +164,7 @@ fn hear_direct(regs: &mut Regs, slot: u8, desc: &DirectDesc, word: u32) -> Did
     let index = command.encode().0;
     regs.response(index, word);
     regs.direct(word);
-    if is_masked(regs, word) && !is_poll(&command) {
+    if stops_for(regs, &command, word) {
         stop(
             regs,
             command_error(index, slot),
@@ -158,10 +175,17 @@ fn hear_direct(regs: &mut Regs, slot: u8, desc: &DirectDesc, word: u32) -> Did
     }
 }
 
+// Whether the engine stops for the response of a direct command.
+fn stops_for(regs: &Regs, command: &Command, word: u32) -> bool
+    ensures { result ≡ (is_masked regs.now word && not (is_poll command.now)) }
+{
+    is_masked(regs, word) && !is_poll(command)
+}
+
 fn complete_direct(regs: &mut Regs, slot: u8, desc: &DirectDesc) -> Did
     requires below { slot < 32 }
-    ensures after { (held : Places) → outcome_of result held regs.new ≡ direct_done slot desc.now (host_of held regs.old) }
-    ensures goes_on { stop_of result ≡ None }
+    ensures completed { regs.new ≡ completed regs.old slot desc.now.int }
+    ensures did { result ≡ Direct slot }
 {
     regs.complete(slot, desc.int);
     Did::Direct { slot }
@@ -286,8 +310,8 @@ fn word_in(answer: Result<u32, LinkEnd>, slot: Option<u8>) -> Result<u32, Cause>
 
 // Stops the engine.
 fn stop(regs: &mut Regs, information: u32, cause: Cause) -> Did
-    ensures after { (held : Places) → outcome_of result held regs.new ≡ stop (host_of held regs.old) information cause }
-    ensures stops { result ≡ Stopped cause }
+    ensures stopped { regs.new ≡ stopped_with regs.old information }
+    ensures did { result ≡ Stopped cause }
 {
     regs.stopped(information);
     Did::Stopped(cause)

@@ -1,6 +1,7 @@
 ghost use Rattle.std.specs.Prelude.{◌≡◌, ◌==◌, ◌<◌, IsTrue, not};
 ghost use Rattle.std.specs.Int.RustNames.{bit_and};
 ghost use Rattle.cq_words.specs.Table.{is_table, word_with};
+ghost use Rattle.bus_link.specs.Link.{is_poll};
 ghost use Rattle.cmd_words.specs.Argument.{ends_below_32};
 ghost use Rattle.cq_engine.specs.Words.{command_error, data_error, direct_of, execute_of, has_error, is_masked, params_of, poll_of};
 
