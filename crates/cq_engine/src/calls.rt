@@ -6,11 +6,12 @@ ghost use Rattle.cq_regs.specs.declared.slots.Progress.TheVariants.{Named, Ready
 ghost use Rattle.cq_regs.specs.Slots.{progress_of};
 ghost use Rattle.cq_schedule.specs.Held.{held_at, Places};
 ghost use Rattle.cq_schedule.specs.Meaning.{list_of};
-ghost use Rattle.piece_data.specs.Data.{block_of};
+ghost use Rattle.piece_data.specs.Data.{block_of, parts};
+ghost use Rattle.piece_data.specs.Laws.{HasSameSpace, KeepsOthers};
 ghost use Rattle.cq_engine.specs.After.{after_address, after_block, after_close, after_direct, after_execute, after_params, after_poll};
 ghost use Rattle.cq_engine.specs.Ends.{Uses};
-ghost use Rattle.cq_engine.specs.Event.{Closes, Exchanges, Gives, IsServed, MovesBlock, Takes};
-ghost use Rattle.cq_engine.specs.Holds.{IsNextBlock};
+ghost use Rattle.cq_engine.specs.Event.{Closes, Exchanges, Gives, IsServed, MovesBlock, Takes, read_into};
+ghost use Rattle.cq_engine.specs.Holds.{IsNextBlock, LiesIn};
 ghost use Rattle.cq_engine.specs.Outcome.{host_of, outcome_of, stop_of};
 ghost use Rattle.cq_engine.specs.Words.{direct_of, execute_of, params_of, poll_of};
 
@@ -20,11 +21,11 @@ use crate::effects::{
     drop_slot,
 };
 use crate::words::{direct_of, execute_of, params_of, poll_of};
-use bus_link::Link;
+use bus_link::{Link, LinkEnd};
 use cmd_words::Command;
 use cq_desc::{DirectDesc, TaskDesc};
 use cq_regs::{Register, Regs};
-use cq_schedule::HeldTasks;
+use cq_schedule::{HeldTask, HeldTasks};
 use cq_task::{DataTask, SlotTask, TaskList, read_slot};
 use host_mem::HostMem;
 use piece_data::{read_block, write_block};
@@ -155,7 +156,7 @@ pub(crate) fn move_block<L: Link>(
     ensures moves { IsSomeAnd (held_at held.old slot) (λ h. MovesBlock L.made link.old link.new (host_of held.old regs.old) mem.old mem.new slot k (outcome_of result held.new regs.new) h.task) }
     ensures uses { Uses L.keeps L.fits L.state link.old link.new (stop_of result) }
 {
-    if desc_of(held, slot).read {
+    if held_task(held, slot).task.desc.read {
         take_block(held, regs, mem, link, slot, k)
     } else {
         give_block(held, regs, mem, link, slot, k)
@@ -177,13 +178,9 @@ fn give_block<L: Link>(
     ensures uses { Uses L.keeps L.fits L.state link.old link.new (stop_of result) }
 {
     let mut block = Block([0; 512]);
-    let desc = match held.get(slot) {
-        Some(held) => {
-            read_block(mem, held.task.pieces.as_slice(), k, &mut block);
-            held.task.desc
-        }
-        None => unreachable!(),
-    };
+    let task = &held_task(held, slot).task;
+    read_block(mem, task.pieces.as_slice(), k, &mut block);
+    let desc = task.desc;
     let answer = link.give(&block);
     after_block(held, regs, slot, &desc, answer)
 }
@@ -204,26 +201,34 @@ fn take_block<L: Link>(
 {
     let mut block = Block([0; 512]);
     let answer = link.take(&mut block);
-    let desc = match held.get(slot) {
-        Some(held) => {
-            if answer.is_ok() {
-                write_block(mem, held.task.pieces.as_slice(), k, &block);
-            }
-            held.task.desc
-        }
-        None => unreachable!(),
-    };
+    let task = &held_task(held, slot).task;
+    take_into(mem, task, k, &block, answer);
+    let desc = task.desc;
     after_block(held, regs, slot, &desc, answer)
 }
 
-/// The descriptor of the task that is held of a slot.
-pub(crate) fn desc_of(held: &HeldTasks, slot: u8) -> TaskDesc
+// Puts a block that was read into the pieces of its task.
+fn take_into(mem: &mut HostMem, task: &DataTask, k: u16, block: &Block, answer: Result<(), LinkEnd>)
+    requires lies { LiesIn mem.old task.now }
+    requires left { k < task.now.desc.blocks }
+    ensures written { mem.new ≡ read_into mem.old task.now.pieces k block.now answer }
+    ensures space { HasSameSpace mem.old mem.new }
+    ensures others { KeepsOthers (parts task.now.pieces (512 * k) 512) mem.old mem.new }
+{
+    match answer {
+        Ok(()) => write_block(mem, task.pieces.as_slice(), k, block),
+        Err(_) => {}
+    }
+}
+
+/// The task that is held of a slot.
+pub(crate) fn held_task(held: &HeldTasks, slot: u8) -> &HeldTask
     requires below { slot < 32 }
     requires is_held { IsSome (held_at held.now slot) }
-    ensures { IsSomeAnd (held_at held.now slot) (λ h. h.task.desc ≡ result) }
+    ensures { held_at held.now slot ≡ Some result.now }
 {
     match held.get(slot) {
-        Some(held) => held.task.desc,
+        Some(task) => task,
         None => unreachable!(),
     }
 }

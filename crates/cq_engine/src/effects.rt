@@ -1,6 +1,7 @@
 //! What the answer of each call of the link does to the tasks that are held and to the registers.
-ghost use Rattle.std.specs.Prelude.{◌≡◌, ◌<◌, ◌&&◌, not, Some, IfErr, IfSome};
+ghost use Rattle.std.specs.Prelude.{◌≡◌, ◌<◌, ◌&&◌, not, true, false, Some, IfSome, MatchResult};
 ghost use Rattle.std.specs.Option.{IsSomeAnd};
+ghost use Rattle.std.specs.Result.{result_err};
 ghost use Rattle.cq_regs.specs.declared.slots.Progress.TheVariants.{Named, Ready, Rung};
 ghost use Rattle.bus_link.specs.declared.link.Cause.TheVariants.{Response};
 ghost use Rattle.bus_link.specs.Link.{is_poll};
@@ -10,9 +11,9 @@ ghost use Rattle.cq_regs.specs.Slots.{progress_of};
 ghost use Rattle.cq_engine.specs.declared.did.Did.TheVariants.{Direct, Finished, Stopped};
 ghost use Rattle.cq_schedule.specs.Held.{held_at, HasBlockLeft, Places};
 ghost use Rattle.cq_engine.specs.After.{after_address, after_block, after_close, after_direct, after_execute, after_params, after_poll, direct_ended, direct_heard, dropped, executed, finished, phase_ended};
-ghost use Rattle.cq_engine.specs.Ends.{StopsFor};
+ghost use Rattle.cq_engine.specs.Ends.{Explains};
 ghost use Rattle.cq_engine.specs.Outcome.{heard, host_of, judged, outcome_of, stop_of, stopped_with, word_in};
-ghost use Rattle.cq_engine.specs.Words.{is_masked};
+ghost use Rattle.cq_engine.specs.Words.{direct_of, is_masked};
 
 use crate::Did;
 use crate::words::{
@@ -37,7 +38,7 @@ pub(crate) fn after_params(
     requires below { slot < 32 }
     requires rung { progress_of regs.old.ring slot ≡ Rung }
     ensures after { outcome_of result held.new regs.new ≡ after_params (host_of held.old regs.old) slot task answer }
-    ensures stops { IfSome (stop_of result) (StopsFor answer) }
+    ensures explains { Explains true answer (stop_of result) }
 {
     let command = params_of(slot, &task.desc);
     match hear(regs, &command, slot, answer) {
@@ -60,7 +61,7 @@ pub(crate) fn after_address(
     requires below { slot < 32 }
     requires named { progress_of regs.old.ring slot ≡ Named }
     ensures after { (held : Places) → outcome_of result held regs.new ≡ after_address (host_of held regs.old) slot desc.now answer }
-    ensures stops { IfSome (stop_of result) (StopsFor answer) }
+    ensures explains { Explains true answer (stop_of result) }
 {
     let command = Command::Address(desc.start);
     match hear(regs, &command, slot, answer) {
@@ -83,7 +84,7 @@ pub(crate) fn after_execute(
     requires below { slot < 32 }
     requires ready { progress_of regs.old.ring slot ≡ Ready }
     ensures after { outcome_of result held.new regs.new ≡ after_execute (host_of held.old regs.old) slot desc.now answer }
-    ensures stops { IfSome (stop_of result) (StopsFor answer) }
+    ensures explains { Explains true answer (stop_of result) }
 {
     match hear(regs, &execute_of(slot, desc), slot, answer) {
         Ok(word) => execute(held, regs, slot, desc, word),
@@ -108,7 +109,7 @@ fn execute(held: &mut HeldTasks, regs: &mut Regs, slot: u8, desc: &TaskDesc, wor
 /// A poll was answered: its word is the queue status word.
 pub(crate) fn after_poll(regs: &mut Regs, answer: Result<u32, LinkEnd>) -> Did
     ensures after { (held : Places) → outcome_of result held regs.new ≡ after_poll (host_of held regs.old) answer }
-    ensures stops { IfSome (stop_of result) (StopsFor answer) }
+    ensures explains { Explains false answer (stop_of result) }
 {
     let command = poll_of(regs);
     let index = command.encode().0;
@@ -131,7 +132,7 @@ pub(crate) fn after_direct(
 ) -> Did
     requires below { slot < 32 }
     ensures after { (held : Places) → outcome_of result held regs.new ≡ after_direct (host_of held regs.old) slot desc.now answer }
-    ensures stops { IfSome (stop_of result) (StopsFor answer) }
+    ensures explains { Explains (not (is_poll (direct_of desc.now))) answer (stop_of result) }
 {
     match word_in(answer, Some(slot)) {
         Ok(word) => end_direct(regs, slot, desc, word),
@@ -145,7 +146,7 @@ pub(crate) fn after_direct(
 fn end_direct(regs: &mut Regs, slot: u8, desc: &DirectDesc, word: u32) -> Did
     requires below { slot < 32 }
     ensures after { (held : Places) → outcome_of result held regs.new ≡ direct_ended (host_of held regs.old) slot desc.now (Ok word) }
-    ensures stops { IfSome (stop_of result) (λ cause. cause ≡ Response word slot) }
+    ensures stops { IfSome (stop_of result) (λ cause. (cause ≡ Response word slot) × (is_poll (direct_of desc.now) ≡ false)) }
 {
     if desc.resp == 0 {
         complete_direct(regs, slot, desc)
@@ -158,7 +159,7 @@ fn end_direct(regs: &mut Regs, slot: u8, desc: &DirectDesc, word: u32) -> Did
 fn hear_direct(regs: &mut Regs, slot: u8, desc: &DirectDesc, word: u32) -> Did
     requires below { slot < 32 }
     ensures after { (held : Places) → outcome_of result held regs.new ≡ direct_heard slot desc.now (host_of held regs.old) word }
-    ensures stops { IfSome (stop_of result) (λ cause. cause ≡ Response word slot) }
+    ensures stops { IfSome (stop_of result) (λ cause. (cause ≡ Response word slot) × (is_poll (direct_of desc.now) ≡ false)) }
 {
     let command = direct_of(desc);
     let index = command.encode().0;
@@ -212,7 +213,7 @@ pub(crate) fn after_block(
     requires below { slot < 32 }
     requires left { IsSomeAnd (held_at held.old slot) HasBlockLeft }
     ensures after { outcome_of result held.new regs.new ≡ after_block (host_of held.old regs.old) slot desc.now answer }
-    ensures stops { IfSome (stop_of result) (λ cause. IfErr answer (λ end. StopsFor (Err end) cause)) }
+    ensures explains { MatchResult answer (λ _. stop_of result ≡ None) (λ end. Explains true (Err end) (stop_of result)) }
 {
     match answer {
         Ok(()) => {
@@ -233,7 +234,7 @@ pub(crate) fn after_close(
 ) -> Did
     requires below { slot < 32 }
     ensures after { outcome_of result held.new regs.new ≡ after_close (host_of held.old regs.old) slot desc.now answer }
-    ensures stops { IfSome (stop_of result) (StopsFor answer) }
+    ensures explains { Explains true answer (stop_of result) }
 {
     match judge(regs, slot, answer) {
         Ok(_) => finish(held, regs, slot, desc),
@@ -266,7 +267,7 @@ fn hear(
     ensures judged { result ≡ judged regs.old slot (word_in answer (Some slot)) }
     ensures heard { regs.new ≡ heard regs.old (index_of command.now) slot (word_in answer (Some slot)) }
     ensures ring { regs.new.ring ≡ regs.old.ring }
-    ensures stops { IfErr result (StopsFor answer) }
+    ensures explains { Explains true answer (result_err result) }
 {
     let index = command.encode().0;
     match word_in(answer, Some(slot)) {
@@ -289,7 +290,7 @@ fn hear(
 // The word of an answer, unless the engine is to stop for it.
 fn judge(regs: &Regs, slot: u8, answer: Result<u32, LinkEnd>) -> Result<u32, Cause>
     ensures judged { result ≡ judged regs.now slot (word_in answer (Some slot)) }
-    ensures stops { IfErr result (StopsFor answer) }
+    ensures explains { Explains true answer (result_err result) }
 {
     match word_in(answer, Some(slot)) {
         Ok(word) if is_masked(regs, word) => Err(Cause::Response { word, slot }),
