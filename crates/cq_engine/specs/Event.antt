@@ -22,7 +22,7 @@ use Rattle.cq_schedule.specs.declared.held.HeldTask.{HeldTask}
 use Rattle.cq_schedule.specs.declared.rules.Due.{Due}
 use Rattle.cq_schedule.specs.declared.rules.Due.TheVariants.{Rest, Block as NextBlock, Close, Address, Serve, Execute, Poll, Tick}
 use Rattle.cq_schedule.specs.Held.{held_at, noted, remembered}
-use Rattle.cq_schedule.specs.Meaning.{IsDue, list_of}
+use Rattle.cq_schedule.specs.Meaning.{HasItsSlot, IsDue, list_of}
 use Rattle.piece_data.specs.Data.{block_of, parts, with_block}
 use Rattle.piece_data.specs.Laws.{HasSameSpace, KeepsOthers}
 use Rattle.cq_engine.specs.declared.did.Did.{Did}
@@ -121,6 +121,7 @@ pub record Acts {L : Type 0} (made : L → Call → L → Type 0) (old new : L) 
     : Type 0 where
   pub due : Due
   pub is_due : IsDue host.held host.regs memory due
+  pub slot : HasItsSlot host.held host.regs due
   pub does : Does made old new host memory memory' outcome due
 
 -- the tasks that the engine keeps, each with how far its slot is now, and what it stopped for last

@@ -7,7 +7,7 @@ use Rattle.cq_task.specs.declared.slot.DataTask.{DataTask}
 use Rattle.cq_task.specs.declared.slot.TheConstants.{BLOCK_BYTES}
 use Rattle.cq_schedule.specs.declared.held.HeldTask.{HeldTask}
 use Rattle.cq_schedule.specs.Held.{Places, held_at}
-use Rattle.cq_schedule.specs.Meaning.{HoldsTasks}
+use Rattle.cq_schedule.specs.Holding.{HoldsTasks}
 use Rattle.cq_engine.specs.Outcome.{Holding}
 
 -- where the engine is stopped it holds the cause, else the task of each slot that is named and not complete
@@ -22,7 +22,7 @@ pub record LiesIn (memory : Memory) (task : DataTask) : Type 0 where
 
 -- those of every task that is held
 abbrev pub LieIn : Memory → Places → Type 0
-LieIn memory held = (slot : ℕ) → IfSome (held_at held slot) (λ h. LiesIn memory h.task)
+LieIn memory held = (slot : ℕ) → slot < 32 → IfSome (held_at held slot) (λ h. LiesIn memory h.task)
 
 -- the next block of a task is the k-th
 pub record IsNextBlock (memory : Memory) (k : ℕ) (held : HeldTask) : Type 0 where

@@ -6,7 +6,7 @@ use Rattle.bus_link.specs.declared.link.LinkEnd.{LinkEnd}
 use Rattle.bus_link.specs.declared.link.LinkEnd.TheVariants.{Bus, Status, Dark}
 use Rattle.cq_regs.specs.State.{Registers}
 use Rattle.cq_regs.specs.Effects.{raised, response_error}
-use Rattle.cq_schedule.specs.Held.{Places}
+use Rattle.cq_schedule.specs.Held.{Places, none_held}
 use Rattle.cq_engine.specs.declared.did.Did.{Did}
 use Rattle.cq_engine.specs.declared.did.Did.TheVariants.{Stopped}
 use Rattle.cq_engine.specs.Words.{command_error, is_masked}
@@ -15,6 +15,10 @@ use Rattle.cq_engine.specs.Words.{command_error, is_masked}
 pub record Holding : Type 0 where
   pub held : Places
   pub cause : Option Cause
+
+-- an engine that was just started or reset
+abbrev pub holds_nothing : Holding
+holds_nothing = record { held = none_held; cause = None }
 
 -- the tasks that are held, and the registers
 pub record Host : Type 0 where

@@ -5,8 +5,9 @@
 mod calls;
 mod did;
 mod effects;
+mod engine;
 mod words;
 
 pub use cq_task::DropCause;
 pub use did::Did;
-
+pub use engine::Engine;
