@@ -120,6 +120,7 @@ fn act<L: Link>(held: &mut HeldTasks, regs: &mut Regs, mem: &mut HostMem, link: 
     requires lie { LieIn mem.old held.old }
     ensures acts { Acts L.made link.old link.new (host_of held.old regs.old) mem.old mem.new (outcome_of result held.new regs.new) }
     ensures uses { Uses L.keeps L.fits L.state link.old link.new (stop_of result) }
+    ensures space { HasSameSpace mem.old mem.new }
 {
     match due(held, regs, mem) {
         Due::Rest => Did::Idle,
