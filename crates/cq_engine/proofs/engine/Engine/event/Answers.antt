@@ -16,10 +16,10 @@ use Rattle.cq_engine.proofs.engine.Engine.event.Given as given
 use Rattle.cq_engine.proofs.engine.Engine.event.Goals as goal
 
 held_is : (g : given.Over) (c : goal.After-note_stop g) → c.self.inside.held ≡ c.args.self.now.held
-held_is g c = sym (ap (λ v. v.held) c.self.view_is)
+held_is g c = ap (λ v. v.held) c.self.view_is
 
 cause_is : (g : given.Over) (c : goal.After-note_stop g) → c.self.inside.cause ≡ c.args.self.now.cause
-cause_is g c = sym (ap (λ v. v.cause) c.self.view_is)
+cause_is g c = ap (λ v. v.cause) c.self.view_is
 
 forgotten : (g : given.Over) (c : goal.After-note_stop g) → c.forget.new.self ≡ remembered c.args.self.now.held c.args.regs.now
 forgotten g c = c.forget.ensures.all ∙ ap (λ held. remembered held c.args.regs.now) (held_is g c)
