@@ -23,10 +23,10 @@ pub has_stayed : (held held' : Places) (regs regs' : Registers) → HasTasks hel
     → ((other : ℕ) → Stays held held' regs regs' other) → HasTasks held' regs'
 has_stayed held held' regs regs' has same stays runs other below begun =
     elim (stays other begun) [
-      inl h ↦ h
+      | inl h ↦ h
       | inr h ↦
-        let P : Option HeldTask → Type 0 = λ o. IsSome o in
-        subst P (sym h.1) (has (sym same ∙ runs) other below h.0)
+          let P : Option HeldTask → Type 0 = λ o. IsSome o in
+          subst P (sym h.1) (has (sym same ∙ runs) other below h.0)
     ]
 
 pub holds_has : (held : Places) (regs : Registers) → HoldsTasks held regs → HasTasks held regs
@@ -43,11 +43,11 @@ has_advanced held held' regs regs' slot has same ring filled others =
     has_stayed held held' regs regs' has same
     (λ other begun.
     elim (eqb_tells other slot) [
-      inl t ↦ let P : ℕ → Type 0 = λ n. IsSome (held_at held' n) in inl (subst P (sym t.1) filled)
+      | inl t ↦ let P : ℕ → Type 0 = λ n. IsSome (held_at held' n) in inl (subst P (sym t.1) filled)
       | inr t ↦
-        let moved : progress_of regs'.ring other ≡ progress_of regs.ring other =
-        ap (λ r. progress_of r other) ring ∙ advanced-other regs.ring slot other t.1 in
-        inr (begun_along (progress_of regs'.ring other) (progress_of regs.ring other) moved begun, others other t.1)
+          let moved : progress_of regs'.ring other ≡ progress_of regs.ring other =
+          ap (λ r. progress_of r other) ring ∙ advanced-other regs.ring slot other t.1 in
+          inr (begun_along (progress_of regs'.ring other) (progress_of regs.ring other) moved begun, others other t.1)
     ])
 
 -- one slot is idle
@@ -58,14 +58,14 @@ has_without held held' regs regs' slot has same ring others =
     has_stayed held held' regs regs' has same
     (λ other begun.
     elim (eqb_tells other slot) [
-      inl t ↦
-        let idle : progress_of regs'.ring other ≡ Idle =
-        ap (λ r. progress_of r other) ring ∙ ap (progress_of (without regs.ring slot)) t.1 ∙ without-same regs.ring slot in
-        absurd (false≢true (begun_along (progress_of regs'.ring other) Idle idle begun))
+      | inl t ↦
+          let idle : progress_of regs'.ring other ≡ Idle =
+          ap (λ r. progress_of r other) ring ∙ ap (progress_of (without regs.ring slot)) t.1 ∙ without-same regs.ring slot in
+          absurd (false≢true (begun_along (progress_of regs'.ring other) Idle idle begun))
       | inr t ↦
-        let moved : progress_of regs'.ring other ≡ progress_of regs.ring other =
-        ap (λ r. progress_of r other) ring ∙ without-other regs.ring slot other t.1 in
-        inr (begun_along (progress_of regs'.ring other) (progress_of regs.ring other) moved begun, others other t.1)
+          let moved : progress_of regs'.ring other ≡ progress_of regs.ring other =
+          ap (λ r. progress_of r other) ring ∙ without-other regs.ring slot other t.1 in
+          inr (begun_along (progress_of regs'.ring other) (progress_of regs.ring other) moved begun, others other t.1)
     ])
 
 -- no slot begins, and each place that was filled is

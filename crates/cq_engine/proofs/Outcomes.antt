@@ -215,10 +215,10 @@ counted_filled held slot other inside h =
     let P : Option HeldTask → Type 0 = λ o. IsSome o in
     let place = option_map with_block (held_at held slot) in
     elim (eqb_tells other slot) [
-      inl t ↦
-        let Q : ℕ → Type 0 = λ n. IsSome (held_at held n) in
-        let R : ℕ → Type 0 = λ n. IsSome (held_at (slice_set held slot place) n) in
-        subst R (sym t.1) (subst P (sym (set-same held slot place inside)) (some_counted (held_at held slot) (subst Q t.1 h)))
+      | inl t ↦
+          let Q : ℕ → Type 0 = λ n. IsSome (held_at held n) in
+          let R : ℕ → Type 0 = λ n. IsSome (held_at (slice_set held slot place) n) in
+          subst R (sym t.1) (subst P (sym (set-same held slot place inside)) (some_counted (held_at held slot) (subst Q t.1 h)))
       | inr t ↦ subst P (sym (set-other held slot other place t.1)) h
     ]
 

@@ -80,12 +80,7 @@ fn send_params<L: Link>(
 }
 
 /// Sends CMD45 of the task of a slot.
-pub(crate) fn send_address<L: Link>(
-    regs: &mut Regs,
-    link: &mut L,
-    slot: u8,
-    desc: &TaskDesc,
-) -> Did
+pub(crate) fn send_address<L: Link>(regs: &mut Regs, link: &mut L, slot: u8, desc: &TaskDesc) -> Did
     requires fits { L.fits link.old }
     requires below { slot < 32 }
     requires named { progress_of regs.old.ring slot ≡ Named }

@@ -149,7 +149,7 @@ fn end_direct(regs: &mut Regs, slot: u8, desc: &DirectDesc, word: u32) -> Did
     ensures stops { IfSome (stop_of result) (λ cause. (cause ≡ Response word slot) × (is_poll (direct_of desc.now) ≡ false)) }
 {
     if desc.resp == 0 {
-        complete_direct(regs, slot, desc)
+        complete_direct(regs, slot, desc.int)
     } else {
         hear_direct(regs, slot, desc, word)
     }
@@ -172,7 +172,7 @@ fn hear_direct(regs: &mut Regs, slot: u8, desc: &DirectDesc, word: u32) -> Did
             Cause::Response { word, slot },
         )
     } else {
-        complete_direct(regs, slot, desc)
+        complete_direct(regs, slot, desc.int)
     }
 }
 
@@ -183,12 +183,12 @@ fn stops_for(regs: &Regs, command: &Command, word: u32) -> bool
     is_masked(regs, word) && !is_poll(command)
 }
 
-fn complete_direct(regs: &mut Regs, slot: u8, desc: &DirectDesc) -> Did
+fn complete_direct(regs: &mut Regs, slot: u8, int: bool) -> Did
     requires below { slot < 32 }
-    ensures completed { regs.new ≡ completed regs.old slot desc.now.int }
+    ensures completed { regs.new ≡ completed regs.old slot int }
     ensures did { result ≡ Direct slot }
 {
-    regs.complete(slot, desc.int);
+    regs.complete(slot, int);
     Did::Direct { slot }
 }
 

@@ -11,3 +11,6 @@ mod words;
 pub use cq_task::DropCause;
 pub use did::Did;
 pub use engine::Engine;
+
+#[cfg(test)]
+mod tests;
