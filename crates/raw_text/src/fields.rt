@@ -1,6 +1,6 @@
 // What stands in a line after the word that names it.
-ghost use Rattle.std.specs.Prelude.{◌≡◌, ◌∷◌, [], ◌++◌, ◌^◌, ◌<◌, ◌≤◌, ◌*◌, ℕ, List, length, IfOk, IfSome, IfNone, IsTrue, ◌↔◌, codes, decimal};
-ghost use Rattle.hex.specs.Hex.{IsBytes, encode_lower};
+ghost use Rattle.std.specs.Prelude.{◌≡◌, ◌∷◌, [], ◌++◌, ◌^◌, ◌<◌, ◌≤◌, ◌*◌, ℕ, List, length, IfOk, IfSome, IfNone, IsTrue, MatchOption, ◌≢◌, ◌↔◌, codes, decimal};
+ghost use Rattle.hex.specs.Hex.{decode_of, encode_lower};
 ghost use Rattle.text_words.specs.Reads.{Reads};
 ghost use Rattle.text_words.specs.Words.{hex_byte};
 ghost use Rattle.raw_text.specs.HexNumber.{hex_number};
@@ -100,15 +100,26 @@ pub fn read_bytes(alloc: Global, word: &[u8]) -> Result<Option<Bytes>, NoMemory>
     if word.len() > 2 * MAX_POKED {
         return Ok(None);
     }
-    let bytes = match hex::decode(alloc, word) {
-        Ok(bytes) => bytes,
-        Err(FromHexError::OutOfMemory) => return Err(NoMemory),
-        Err(_) => return Ok(None),
+    let Some(bytes) = decoded(alloc, word)? else {
+        return Ok(None);
     };
     if !is_text_of(word, bytes.as_slice(), &mut [0; 1024]) {
         return Ok(None);
     }
     Ok(Some(Bytes::from_vec(bytes)))
+}
+
+// The bytes of pairs of digits, in lower or upper case.
+fn decoded(alloc: Global, word: &[u8]) -> Result<Option<Vec<u8>>, NoMemory>
+    ensures { IfOk result (λ read. MatchOption read ((bytes : List ℕ) → decode_of word.now ≢ Ok bytes) (λ bytes. decode_of word.now ≡ Ok bytes.items)) }
+{
+    match hex::decode(alloc, word) {
+        Ok(bytes) => Ok(Some(bytes)),
+        Err(error) => match error {
+            FromHexError::OutOfMemory => Err(NoMemory),
+            _ => Ok(None),
+        },
+    }
 }
 
 // Whether `word` is the text of these bytes, in lower case. `digits` is room for their digits.

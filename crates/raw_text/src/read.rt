@@ -1,6 +1,6 @@
 // A script's text.
-ghost use Rattle.std.specs.Prelude.{◌≡◌, ◌≢◌, ◌++◌, ◌∷◌, ◌<◌, ◌≤◌, ℕ, List, All, IfOk, IfErr, IfNone, IfSome, length};
-ghost use Rattle.storage_model.specs.declared.ends.TextEnd.TheVariants.{NoMemory as OutOfMemory};
+ghost use Rattle.std.specs.Prelude.{◌≡◌, ◌≢◌, ◌++◌, ◌∷◌, ◌+◌, ◌<◌, ◌≤◌, ℕ, List, All, IfOk, IfErr, IfNone, IfSome, length};
+ghost use Rattle.storage_model.specs.declared.ends.TextEnd.TheVariants.{Bad, NoMemory as OutOfMemory};
 ghost use Rattle.raw_text.specs.declared.op.RawOp.{RawOp};
 ghost use Rattle.raw_text.specs.Meaning.{IsRefused, Means};
 ghost use Rattle.raw_text.specs.Raw.{IsOp};
@@ -28,19 +28,25 @@ pub fn read_raw(alloc: Global, bytes: &[u8]) -> Result<RawList, TextEnd>
     while !rest.is_empty() {
         let room = MAX_BYTES - (bytes.len() - rest.len());
         let Some((line, after)) = next_line(rest, room) else {
-            return Err(TextEnd::Bad {
-                line: ops.len() as u32 + 1,
-            });
+            return Err(bad_after(&ops));
         };
         let Some(op) = read_op(alloc, line)? else {
-            return Err(TextEnd::Bad {
-                line: ops.len() as u32 + 1,
-            });
+            return Err(bad_after(&ops));
         };
         ops.push(op)?;
         rest = after;
     }
     Ok(ops)
+}
+
+// The end of a text whose first bad line stands after these operations.
+fn bad_after(ops: &RawList) -> TextEnd
+    requires { length ops.now ≤ 16777216 }
+    ensures { result ≡ Bad (length ops.now + 1) }
+{
+    TextEnd::Bad {
+        line: ops.len() as u32 + 1,
+    }
 }
 
 // The line at the front of what is left, without its line feed, and what follows it, if with the line feed it has not
