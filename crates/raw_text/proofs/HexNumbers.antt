@@ -1,5 +1,5 @@
 -- A number has one hexadecimal text, and lower case digits without a leading zero are the text of their number.
-use Rattle.std.proofs.Common.{◌≡◌, ◌≢◌, ◌⊎◌, inl, inr, ℕ, zero, suc, ◌+◌, ◌-◌, ◌*◌, ◌/◌, ◌%◌, ◌^◌, ◌<◌, ◌≤◌, Bool, true, false, cond, eqb, ltb, List, [], ◌∷◌, ◌++◌, length, get_or, Result, Ok, Err, refl, sym, ap, subst, ◌∙◌, arith, append_assoc}
+use Rattle.std.proofs.Common.{◌≡◌, ◌≢◌, ◌⊎◌, inl, inr, ℕ, zero, suc, ◌+◌, ◌-◌, ◌*◌, ◌/◌, ◌%◌, ◌^◌, ◌<◌, ◌≤◌, Bool, true, false, cond, ltb, List, [], ◌∷◌, ◌++◌, length, get_or, Result, Ok, Err, refl, sym, ap, subst, ◌∙◌, arith, append_assoc}
 use Rattle.std.specs.Prelude.{All, slice_index}
 use Rattle.std.specs.Char.{digit_value}
 use Rattle.std.specs.Fmt.{digit_glyph, digits_onto, digits}
@@ -17,7 +17,7 @@ use Rattle.raw_text.specs.HexNumber.{HasLeadingZero, IsLowerDigit, hex_number}
 order : (n m : ℕ) → (n < m) ⊎ (m ≤ n)
 order n zero = inr (omega arith)
 order zero (suc m) = inl (omega arith)
-order (suc n) (suc m) = elim (order n m) [ | inl less ↦ inl (omega arith) | inr more ↦ inr (omega arith) ]
+order (suc n) (suc m) = elim (order n m) [ inl less ↦ inl (omega arith) | inr more ↦ inr (omega arith) ]
 
 abbrev spell : ℕ → ℕ → List ℕ → List ℕ
 spell k n acc = digits_onto k 16 false n acc
@@ -115,7 +115,7 @@ no_leading_zero n fits zero_first =
     omega (arith, plain.3 (omega arith), zero_first.0)
 
 lower_above : (c : ℕ) → IsLowerDigit c → 32 < c
-lower_above c lower = elim lower [ | inl digit ↦ omega arith | inr letter ↦ omega arith ]
+lower_above c lower = elim lower [ inl digit ↦ omega arith | inr letter ↦ omega arith ]
 
 word_from_lower : (digits : List ℕ) → All IsLowerDigit digits → IsWord digits
 word_from_lower [] lower = All-nil (λ b. 32 < b)
@@ -126,7 +126,7 @@ pub number_word : (n : ℕ) → n < 2 ^ 64 → IsWord (hex_number n)
 number_word n fits = word_from_lower (hex_number n) (hex_number-lower n fits)
 
 lower_ascii : (c : ℕ) → IsLowerDigit c → c < 128
-lower_ascii c lower = elim lower [ | inl digit ↦ omega arith | inr letter ↦ omega arith ]
+lower_ascii c lower = elim lower [ inl digit ↦ omega arith | inr letter ↦ omega arith ]
 
 pub ascii_from_lower : (digits : List ℕ) → All IsLowerDigit digits → IsAscii digits
 ascii_from_lower [] lower i = omega arith
@@ -207,7 +207,7 @@ text_of_value (c ∷ d ∷ word) lower some plain fits =
 
 first_lower : (word : List ℕ) → All IsLowerDigit word → get_or word 0 0 ≢ 43
 first_lower [] lower e = omega arith
-first_lower (c ∷ word) lower e = elim (All-head IsLowerDigit c word lower) [ | inl digit ↦ omega arith | inr letter ↦ omega arith ]
+first_lower (c ∷ word) lower e = elim (All-head IsLowerDigit c word lower) [ inl digit ↦ omega arith | inr letter ↦ omega arith ]
 
 abbrev ReadsAs : List ℕ → ℕ → Type 0
 ReadsAs ds m = (((0 < length ds) × AllDigits 16 ds) × (digits_value 16 ds < 2 ^ 64)) × (m ≡ digits_value 16 ds)
@@ -229,5 +229,5 @@ reads_number word (Ok m) e n parsed is fits text = cc
 reads_number word (Err other) e n parsed is fits text =
     let numeral = digits_is_IsNumeral 16 false (omega arith) (omega arith) n (omega arith) in
     let whole : without_leading_plus word ≡ hex_number n =
-      without_leading_plus_none word (first_lower word (subst (λ ds. All IsLowerDigit ds) (sym text) (hex_number-lower n fits))) ∙ text in
+    without_leading_plus_none word (first_lower word (subst (λ ds. All IsLowerDigit ds) (sym text) (hex_number-lower n fits))) ∙ text in
     parsed (subst (λ ds. ((0 < length ds) × AllDigits 16 ds) × (digits_value 16 ds < 2 ^ 64)) (sym whole) (numeral.0, omega (arith, numeral.1)))

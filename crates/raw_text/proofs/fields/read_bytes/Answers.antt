@@ -1,4 +1,4 @@
-use Rattle.std.proofs.Common.{◌≡◌, ◌∙◌, sym, arith, length, List, ℕ, ap}
+use Rattle.std.proofs.Common.{◌∙◌, sym, arith, length, List, ℕ, ap}
 use Rattle.std.proofs.lemmas.Bool.{eqb-true, eqb-false}
 use Rattle.hex.specs.Hex.{encode_lower}
 use Rattle.raw_text.proofs.OpWords.{decoded_poke, decoded_room, poke_decodes, poked_digits, same_decoded}

@@ -1,7 +1,7 @@
-use Rattle.std.proofs.Common.{◌≡◌, ◌∙◌, List, ℕ, subst, sym}
+use Rattle.std.proofs.Common.{◌∙◌, List, ℕ, subst, sym}
 use Rattle.std.specs.Prelude.{All}
 use Rattle.std.proofs.lemmas.Str.{IsUtf8-from_ascii}
-use Rattle.raw_text.specs.HexNumber.{HasLeadingZero, IsLowerDigit, hex_number}
+use Rattle.raw_text.specs.HexNumber.{HasLeadingZero, IsLowerDigit}
 use Rattle.raw_text.proofs.HexNumbers.{ascii_from_lower, hex_number-lower, no_leading_zero, read_number, reads_number}
 use Rattle.raw_text.proofs.hex_number.read_hex_number.Goals as goal
 

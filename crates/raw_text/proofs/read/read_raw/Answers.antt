@@ -1,4 +1,4 @@
-use Rattle.std.proofs.Common.{◌≡◌, ◌+◌, ◌-◌, ◌∙◌, sym, length, arith, refl}
+use Rattle.std.proofs.Common.{◌+◌, ◌-◌, ◌∙◌, sym, length, arith, refl}
 use Rattle.std.proofs.lemmas.Bool.{eqb-true}
 use Rattle.raw_text.specs.Meaning.{IsBadAt}
 use Rattle.raw_text.proofs.Meanings.{all_read, bad_line, bad_op, length_ops, no_bad_line, one_meaning, room_left, some_left, text_push, within_push}
@@ -55,8 +55,8 @@ loop-rest-preserved c =
     let valid = rw c.in-Some-2.is at c.in_ok-op.ensures in
     let counted = room_left bytes ops rest c.loop-rest.invariant.text within in
     rw c.in_ok-push.ensures.ok (record {
-    text = text_push bytes ops c.in-Some-2.op rest line c.in-Some.after.now c.loop-rest.invariant.text some.0 valid.1;
-    within = within_push ops c.in-Some-2.op line (16777216 - (length bytes - length rest)) within valid.0 valid.1 some.2 counted;
+      text = text_push bytes ops c.in-Some-2.op rest line c.in-Some.after.now c.loop-rest.invariant.text some.0 valid.1;
+      within = within_push ops c.in-Some-2.op line (16777216 - (length bytes - length rest)) within valid.0 valid.1 some.2 counted;
     })
 
 pub returns-clause-again : goal.returns-clause-again
