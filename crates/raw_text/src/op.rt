@@ -9,15 +9,15 @@ pub enum RawOp {
     Fill { at: u64, len: u32, value: u8 },
     /// Shows `len` bytes of the memory, 1 to 512 of them, from an address on.
     Peek { at: u64, len: u32 },
-    /// Writes the register at an offset (JESD84-B51, annex B.3).
+    /// Writes the register at an offset (JESD84-B51, annex B; cqhci.h).
     Write { reg: u8, value: u32 },
-    /// Shows the register at an offset (JESD84-B51, annex B.3).
+    /// Shows the register at an offset (JESD84-B51, annex B; cqhci.h).
     Read { reg: u8 },
-    /// Lets the engine work until nothing is left to do or it stops.
+    /// Lets the engine work until it has nothing to do, a poll names no task that was sent, or it stops.
     Go,
     /// Shows a sector as a read would see it.
     Show { sector: u32 },
-    /// Discards the card's whole queue by CMD48 (JESD84-B51, 6.6.39).
+    /// Discards the card's whole queue by CMD48 (JESD84-B51, section 6.6.39).
     Discard,
 }
 
