@@ -125,22 +125,3 @@ fn a_poke_has_at_most_512_bytes(rt: HostRuntime) -> Result<(), Fail> {
     assert_eq!(rt; bad_line(alloc, text.as_slice()), Some(1));
     Ok(())
 }
-
-// 16,384 lines of 1,024 bytes each.
-#[test]
-fn a_script_has_at_most_16_mib(rt: HostRuntime) -> Result<(), Fail> {
-    let alloc = rt.alloc();
-    let mut line = Vec::new(alloc);
-    line.extend_from_slice(b"poke 0 ")?;
-    line.extend_from_slice(&[b'f'; 1016])?;
-    line.push(b'\n')?;
-    let mut text = Vec::with_capacity(alloc, 16_777_219)?;
-    for _ in 0..16_384u32 {
-        text.extend_from_slice(line.as_slice())?;
-    }
-    assert_eq!(rt; text.len(), 16_777_216);
-    assert_eq!(rt; read_raw(alloc, text.as_slice())?.len(), 16_384);
-    text.extend_from_slice(b"go\n")?;
-    assert_eq!(rt; bad_line(alloc, text.as_slice()), Some(16_385));
-    Ok(())
-}
