@@ -14,7 +14,7 @@ use text_words::split_once;
 const MAX_BYTES: usize = 16_777_216;
 
 /// The operations that a script's text means. `Bad` gives the first line, counted from 1, that is no operation's text or
-/// passes the limit of 16 MiB. Memory is taken for the list and for the bytes of one line.
+/// passes the limit of 16 MiB. Memory is taken for the list and for the bytes that its pokes write.
 pub fn read_raw(alloc: Global, bytes: &[u8]) -> Result<RawList, TextEnd>
     ensures means { IfOk result (Means bytes.now) }
     ensures each { IfOk result (All IsOp) }
