@@ -1,7 +1,21 @@
-// The engine's events, up to one after which nothing is to be done.
+// The engine's events, up to one after which it does not go on.
+ghost use Rattle.std.specs.Prelude.{◌≡◌, ℕ, ◌<◌, ◌≤◌, OnOk, true};
+ghost use Rattle.cq_regs.specs.Effects.{is_ready};
+ghost use Rattle.cq_regs.specs.Slots.{progress_of};
+ghost use Rattle.cq_engine.specs.Ends.{EventEnds};
+ghost use Rattle.cq_engine.specs.Outcome.{stop_of};
+ghost use Rattle.card_link.specs.Behind.{link_state};
+ghost use Rattle.raw_face.specs.Machine.{Stands, behind_of, moment};
+ghost use Rattle.raw_face.specs.Operation.{Does};
+ghost use Rattle.raw_face.specs.Output.{HasCauses, IsSinkCause};
+ghost use Rattle.raw_face.specs.Reply.{output_of};
+ghost use Rattle.raw_face.specs.Running.{Happens, end_after, goes_on, has_ready_slot, lines_of};
+ghost use Rattle.raw_text.specs.declared.op.RawOp.TheVariants.{Go};
+ghost use Rattle.cq_engine.specs.declared.did.Did.TheVariants.{Sent as SentCommand, Stopped as StoppedFor};
+
 use crate::Raw;
-use crate::bus::event_of_card;
-use crate::print::{print_end, print_line};
+use crate::print::print_reply;
+use crate::reply::Reply;
 use array_edge::Array;
 use bus_link::Cause;
 use cmd_words::Command;
@@ -11,77 +25,93 @@ use io_edge::Sink;
 use raw_lines::RawLine;
 use storage_model::{End, Halt};
 
-impl Raw {
-    /// Lets the engine work until nothing is due, a poll names no task that was sent, or it stops. Prints a line as each
-    /// slot ends.
-    pub(crate) fn go<A: Array, K: Sink>(
-        &mut self,
-        array: &mut A,
-        out: &mut K,
-    ) -> Result<(), Halt> {
-        loop {
-            let did = self.event(array);
-            print_line_of(&did, out)?;
-            if let Did::Stopped(Cause::Dark) = did {
-                return print_end(End::Dead, out);
-            }
-            if !goes_on(&did, &self.regs) {
-                return Ok(());
-            }
+/// Lets the engine work until nothing is due, a poll names no task that was sent, or it stops. Prints a line as each slot
+/// ends.
+pub fn go<A: Array, K: Sink>(raw: &mut Raw, array: &mut A, out: &mut K) -> Result<(), Halt>
+    requires stands { Stands raw.old (A.state array.old) }
+    ensures does { Does K.took Go (moment raw.old (A.state array.old)) out.old result (moment raw.new (A.state array.new)) out.new }
+    ensures stands { OnOk result (Stands raw.new (A.state array.new)) }
+    ensures sink { IsSinkCause (K.faults out.old) (K.faults out.new) result }
+{
+    loop {
+        let did = raw.event(array);
+        print_reply(&reply_of(&did), out)?;
+        if !raw.goes_on(&did) {
+            return Ok(());
         }
     }
-
-    // One event of the engine.
-    fn event<A: Array>(&mut self, array: &mut A) -> Did {
-        event_of_card(
-            &mut self.engine,
-            &mut self.regs,
-            &mut self.mem,
-            &mut self.card,
-            &mut self.script,
-            array,
-        )
-    }
 }
 
-// Prints the line of the slot that ends in an event, if one does.
-fn print_line_of<K: Sink>(did: &Did, out: &mut K) -> Result<(), Halt> {
-    match line_of(did) {
-        Some(line) => print_line(&line, out),
-        None => Ok(()),
-    }
-}
-
-// The line of the slot that ends in an event, if one does.
-fn line_of(did: &Did) -> Option<RawLine> {
+/// What is printed after an event.
+pub fn reply_of(did: &Did) -> Reply
+    ensures lines { (output_of result).lines ≡ lines_of did.now }
+    ensures end { (output_of result).end ≡ end_after did.now }
+{
     match *did {
-        Did::Direct { slot } | Did::Finished { slot } => Some(RawLine::Done { slot }),
-        Did::Dropped { slot, why } => Some(RawLine::Dropped { slot, cause: why }),
-        Did::Stopped(Cause::Response { word, slot }) => Some(RawLine::Stopped {
+        Did::Direct { slot } => Reply::of(RawLine::Done { slot }),
+        Did::Finished { slot } => Reply::of(RawLine::Done { slot }),
+        Did::Dropped { slot, why } => Reply::of(RawLine::Dropped { slot, cause: why }),
+        Did::Stopped(cause) => reply_of_stop(cause),
+        Did::Idle => Reply::none(),
+        Did::Sent(_) => Reply::none(),
+        Did::Moved { .. } => Reply::none(),
+    }
+}
+
+// What is printed after a stop. No fault befalls the bus.
+fn reply_of_stop(cause: Cause) -> Reply
+    ensures lines { (output_of result).lines ≡ lines_of (StoppedFor cause) }
+    ensures end { (output_of result).end ≡ end_after (StoppedFor cause) }
+{
+    match cause {
+        Cause::Response { word, slot } => Reply::of(RawLine::Stopped {
             slot,
             response: word,
         }),
-        Did::Stopped(Cause::Bus { .. }) | Did::Stopped(Cause::Dark) => None,
-        Did::Idle | Did::Sent(_) | Did::Moved { .. } => None,
+        Cause::Dark => Reply::ending(End::Dead),
+        Cause::Bus { .. } => Reply::none(),
     }
 }
 
-// Whether the engine goes on after an event.
-fn goes_on(did: &Did, regs: &Regs) -> bool {
+/// Whether the engine goes on after an event.
+pub fn goes_on(did: &Did, regs: &Regs) -> bool
+    ensures { result ≡ goes_on did.now regs.now }
+{
     match did {
-        Did::Idle | Did::Stopped(_) => false,
-        Did::Sent(Command::Status { queue: true, .. }) => has_ready_slot(regs),
-        Did::Sent(_) | Did::Direct { .. } | Did::Moved { .. } => true,
-        Did::Finished { .. } | Did::Dropped { .. } => true,
+        Did::Idle => false,
+        Did::Stopped(_) => false,
+        Did::Sent(command) => goes_on_after(command, regs),
+        Did::Direct { .. } => true,
+        Did::Moved { .. } => true,
+        Did::Finished { .. } => true,
+        Did::Dropped { .. } => true,
+    }
+}
+
+// Whether it goes on after a command: after a poll only where that named a task.
+fn goes_on_after(command: &Command, regs: &Regs) -> bool
+    ensures { result ≡ goes_on (SentCommand command.now) regs.now }
+{
+    match command {
+        Command::Status { queue: true, .. } => has_ready_slot(regs),
+        _ => true,
     }
 }
 
 // Whether a slot is ready.
-fn has_ready_slot(regs: &Regs) -> bool {
+fn has_ready_slot(regs: &Regs) -> bool
+    ensures { result ≡ has_ready_slot regs.now }
+{
     for slot in 0..32u8 {
-        if regs.progress(slot) == Progress::Ready {
+        if is_ready(regs.progress(slot)) {
             return true;
         }
     }
     false
+}
+
+fn is_ready(progress: Progress) -> bool
+    ensures { result ≡ is_ready progress }
+{
+    matches!(progress, Progress::Ready)
 }

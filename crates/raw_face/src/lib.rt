@@ -6,6 +6,7 @@ mod bus;
 mod going;
 mod print;
 mod raw;
+mod reply;
 mod sector;
 
 pub use raw::Raw;

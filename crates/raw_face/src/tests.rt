@@ -1,3 +1,5 @@
+ghost use Rattle.std.specs.Prelude.{◌≤◌};
+
 use crate::Raw;
 use array_edge::MemArray;
 use image_form::{Gate, Super, write_gate, write_super};
