@@ -1,6 +1,6 @@
 -- What is printed, and how a script ends.
-use Rattle.std.specs.Prelude.{◌≡◌, ℕ, List, [], ◌∷◌, ◌++◌, flat_map, Option, Some, None, Result, Ok, Err, IsErrOf}
-use Rattle.std.specs.List.{Any}
+use Rattle.std.specs.Prelude.{◌≡◌, ℕ, Bool, true, false, List, [], ◌∷◌, ◌++◌, flat_map, Option, Some, None, Result, Ok, Err, IsErrOf}
+use Rattle.std.specs.List.{list_any}
 use Rattle.array_edge.specs.Array.{ArrayState}
 use Rattle.bus_link.specs.Link.{tells_flash}
 use Rattle.io_edge.specs.Sink.{TookPart}
@@ -15,7 +15,6 @@ use Rattle.storage_model.specs.declared.trace.End.TheVariants.{Good, Fault, Dead
 use Rattle.storage_model.specs.declared.trace.Item.{Item}
 use Rattle.storage_model.specs.declared.trace.Item.TheVariants.{Off}
 use Rattle.trace_text.specs.Trace.{item_text}
-use Rattle.std.specs.Prelude.{true}
 
 -- the lines of an operation, and the line of the script's end where it ends with that operation
 pub record Output : Type 0 where
@@ -65,17 +64,17 @@ abbrev pub Shows : {K : Type 0} → (K → List ℕ → K → Type 0) → K → 
 Shows took old output (Err SinkFailed) new = TookPart took old (output_text output) new
 Shows took old output result new = took old (output_text output) new × (result ≡ halt_of output.end)
 
--- a line that tells of a fault of the flash
-abbrev pub TellsFault : RawLine → Type 0
-TellsFault (Stopped slot response) = tells_flash response ≡ true
-TellsFault Unread = Unit {0}
-TellsFault _ = ⊥
+-- whether a line tells of a fault of the flash
+abbrev pub tells_fault : RawLine → Bool
+tells_fault (Stopped slot response) = tells_flash response
+tells_fault Unread = true
+tells_fault _ = false
 
 -- counts don't fall, and what tells of a fault of the flash or of a cut is printed only where its count rose
 pub record HasCauses (old new : ArrayState) (output : Output) : Type 0 where
   pub faults : Later old.faults new.faults
   pub cuts : Later old.cuts new.cuts
-  pub flash : Any TellsFault output.lines → Rose old.faults new.faults
+  pub flash : list_any tells_fault output.lines ≡ true → Rose old.faults new.faults
   pub fault : output.end ≡ Some Fault → Rose old.faults new.faults
   pub dead : output.end ≡ Some Dead → Rose old.cuts new.cuts
 

@@ -1,14 +1,13 @@
 -- The engine let run: its events in a row, and the line of each slot that ends (host interface annex of JESD84-B51).
-use Rattle.std.specs.Prelude.{◌≡◌, ◌≢◌, ℕ, ◌||◌, Bool, true, false, not, List, [], ◌∷◌, ◌++◌, flat_map, Option, Some, None, Result, Err}
-use Rattle.std.specs.List.{list_any}
+use Rattle.std.specs.Prelude.{◌≡◌, ◌≢◌, ℕ, ◌||◌, Bool, true, false, not, List, [], ◌∷◌, ◌++◌, flat_map, ◌<◌, is_some, IfSome, Option, Some, None, Result, Err}
 use Rattle.bus_link.specs.Link.{is_poll}
 use Rattle.bus_link.specs.declared.link.Cause.TheVariants.{Response, Dark as NoPower}
 use Rattle.card_link.specs.Made.{CardMade}
 use Rattle.cq_engine.specs.Event.{Event}
 use Rattle.cq_engine.specs.declared.did.Did.{Did}
 use Rattle.cq_engine.specs.declared.did.Did.TheVariants.{Idle, Sent, Direct, Finished, Dropped as DroppedTask, Stopped as StoppedFor}
-use Rattle.cq_regs.specs.Effects.{is_ready}
-use Rattle.cq_regs.specs.Slots.{first_slots, progress_of}
+use Rattle.cq_regs.specs.declared.slots.Progress.TheVariants.{Ready}
+use Rattle.cq_schedule.specs.Order.{first_at}
 use Rattle.cq_regs.specs.State.{Registers}
 use Rattle.raw_face.specs.Machine.{Moment, behind_of}
 use Rattle.raw_face.specs.Output.{Output}
@@ -27,7 +26,7 @@ Happens old did new =
 
 -- a slot is ready: so after a poll that names one that was sent, since before a poll none is
 abbrev pub has_ready_slot : Registers → Bool
-has_ready_slot regs = list_any (λ slot. is_ready (progress_of regs.ring slot)) (first_slots 32)
+has_ready_slot regs = is_some (first_at Ready regs.ring)
 
 -- whether the engine goes on: not where nothing was due, after a poll that names no sent task, and where it stopped
 abbrev pub goes_on : Did → Registers → Bool
@@ -35,6 +34,11 @@ goes_on Idle regs = false
 goes_on (StoppedFor cause) regs = false
 goes_on (Sent command) regs = not (is_poll command) || has_ready_slot regs
 goes_on _ regs = true
+
+-- the slot that is ready after a poll is one of the 32
+abbrev pub IsBelow : Did → Registers → Type 0
+IsBelow (Sent command) regs = is_poll command ≡ true → IfSome (first_at Ready regs.ring) (λ slot. slot < 32)
+IsBelow _ regs = Unit {0}
 
 -- the line of a slot that ends in an event: its task is done, dropped, or stops the engine by a response
 abbrev pub lines_of : Did → List RawLine
@@ -48,6 +52,10 @@ lines_of _ = []
 abbrev pub end_after : Did → Option End
 end_after (StoppedFor NoPower) = Some Dead
 end_after _ = None
+
+-- what is printed after an event
+abbrev pub output_after : Did → Output
+output_after did = record { lines = lines_of did; end = end_after did }
 
 -- an event, and what is then
 pub record Step : Type 0 where

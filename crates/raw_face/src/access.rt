@@ -1,10 +1,10 @@
 // Accesses of the host's memory and of the registers.
-ghost use Rattle.std.specs.Prelude.{◌≡◌, ◌⊎◌, ◌≤◌, ◌<◌, length, replicate, OnOk, OnErr, IsOk, ◌↔◌};
+ghost use Rattle.std.specs.Prelude.{◌≡◌, ◌⊎◌, ◌≤◌, ◌<◌, ◌+◌, ◌^◌, length, replicate, OnOk, OnErr, IsOk, ◌↔◌};
 ghost use Rattle.host_mem.specs.Memory.{HasRange, bytes_of, with_bytes};
 ghost use Rattle.cq_regs.specs.Effects.{written};
 ghost use Rattle.cq_regs.specs.Table.{row_at};
 ghost use Rattle.std.specs.Option.{option_map_or};
-ghost use Rattle.raw_face.specs.Access.{IsPokedIn, peek_output, read_output, write_output, IsPeekedIn};
+ghost use Rattle.raw_face.specs.Access.{IsPeekedIn, IsPokedIn, read_output, write_output};
 ghost use Rattle.raw_face.specs.Reply.{output_of};
 
 use crate::reply::Reply;
@@ -50,14 +50,13 @@ fn fill_range(mem: &mut HostMem, at: u64, len: u32, value: u8) -> Result<(), Out
     Ok(())
 }
 
-// Whether all of a range is in the memory.
+// Whether all of a range is in the memory: its first byte is, and its last.
 fn check_range(mem: &HostMem, at: u64, len: u32) -> Result<(), OutOfMemorySpace>
     requires { 1 ≤ len }
     ensures inside { IsOk result ↔ HasRange mem.now at len }
+    ensures below { OnOk result (at + len < 2 ^ 64) }
 {
-    let Some(last) = at.checked_add(u64::from(len) - 1) else {
-        return Err(OutOfMemorySpace);
-    };
+    let last = at.saturating_add(u64::from(len) - 1);
     mem.get(at)?;
     mem.get(last)?;
     Ok(())

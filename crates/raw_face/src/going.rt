@@ -1,7 +1,8 @@
 // The engine's events, up to one after which it does not go on.
-ghost use Rattle.std.specs.Prelude.{◌≡◌, ℕ, ◌<◌, ◌≤◌, OnOk, true};
-ghost use Rattle.cq_regs.specs.Effects.{is_ready};
-ghost use Rattle.cq_regs.specs.Slots.{progress_of};
+ghost use Rattle.std.specs.Prelude.{◌≡◌, ℕ, ◌<◌, ◌≤◌, IfSome, OnOk, true};
+ghost use Rattle.cq_regs.specs.declared.slots.Progress.TheVariants.{Ready};
+ghost use Rattle.cq_schedule.specs.Held.{same};
+ghost use Rattle.cq_schedule.specs.Order.{first_at};
 ghost use Rattle.cq_engine.specs.Ends.{EventEnds};
 ghost use Rattle.cq_engine.specs.Outcome.{stop_of};
 ghost use Rattle.card_link.specs.Behind.{link_state};
@@ -9,7 +10,7 @@ ghost use Rattle.raw_face.specs.Machine.{Stands, behind_of, moment};
 ghost use Rattle.raw_face.specs.Operation.{Does};
 ghost use Rattle.raw_face.specs.Output.{HasCauses, IsSinkCause};
 ghost use Rattle.raw_face.specs.Reply.{output_of};
-ghost use Rattle.raw_face.specs.Running.{Happens, end_after, goes_on, has_ready_slot, lines_of};
+ghost use Rattle.raw_face.specs.Running.{Happens, IsBelow, goes_on, output_after};
 ghost use Rattle.raw_text.specs.declared.op.RawOp.TheVariants.{Go};
 ghost use Rattle.cq_engine.specs.declared.did.Did.TheVariants.{Sent as SentCommand, Stopped as StoppedFor};
 
@@ -44,8 +45,7 @@ pub fn go<A: Array, K: Sink>(raw: &mut Raw, array: &mut A, out: &mut K) -> Resul
 
 /// What is printed after an event.
 pub fn reply_of(did: &Did) -> Reply
-    ensures lines { (output_of result).lines ≡ lines_of did.now }
-    ensures end { (output_of result).end ≡ end_after did.now }
+    ensures { output_of result ≡ output_after did.now }
 {
     match *did {
         Did::Direct { slot } => Reply::of(RawLine::Done { slot }),
@@ -60,8 +60,7 @@ pub fn reply_of(did: &Did) -> Reply
 
 // What is printed after a stop. No fault befalls the bus.
 fn reply_of_stop(cause: Cause) -> Reply
-    ensures lines { (output_of result).lines ≡ lines_of (StoppedFor cause) }
-    ensures end { (output_of result).end ≡ end_after (StoppedFor cause) }
+    ensures { output_of result ≡ output_after (StoppedFor cause) }
 {
     match cause {
         Cause::Response { word, slot } => Reply::of(RawLine::Stopped {
@@ -75,7 +74,8 @@ fn reply_of_stop(cause: Cause) -> Reply
 
 /// Whether the engine goes on after an event.
 pub fn goes_on(did: &Did, regs: &Regs) -> bool
-    ensures { result ≡ goes_on did.now regs.now }
+    ensures value { result ≡ goes_on did.now regs.now }
+    ensures below { IsBelow did.now regs.now }
 {
     match did {
         Did::Idle => false,
@@ -90,28 +90,36 @@ pub fn goes_on(did: &Did, regs: &Regs) -> bool
 
 // Whether it goes on after a command: after a poll only where that named a task.
 fn goes_on_after(command: &Command, regs: &Regs) -> bool
-    ensures { result ≡ goes_on (SentCommand command.now) regs.now }
+    ensures value { result ≡ goes_on (SentCommand command.now) regs.now }
+    ensures below { IsBelow (SentCommand command.now) regs.now }
 {
     match command {
-        Command::Status { queue: true, .. } => has_ready_slot(regs),
+        Command::Status { queue: true, .. } => first_ready(regs).is_some(),
         _ => true,
     }
 }
 
-// Whether a slot is ready.
-fn has_ready_slot(regs: &Regs) -> bool
-    ensures { result ≡ has_ready_slot regs.now }
+// The first ready slot in order of ringing.
+fn first_ready(regs: &Regs) -> Option<u8>
+    ensures value { result ≡ first_at Ready regs.now.ring }
+    ensures below { IfSome result (λ slot. slot < 32) }
 {
-    for slot in 0..32u8 {
+    for k in 0..32u8 {
+        let Some(slot) = regs.rung(k) else {
+            return None;
+        };
         if is_ready(regs.progress(slot)) {
-            return true;
+            return Some(slot);
         }
     }
-    false
+    None
 }
 
 fn is_ready(progress: Progress) -> bool
-    ensures { result ≡ is_ready progress }
+    ensures { result ≡ same progress Ready }
 {
-    matches!(progress, Progress::Ready)
+    match progress {
+        Progress::Ready => true,
+        _ => false,
+    }
 }

@@ -66,7 +66,7 @@ impl Raw {
     ghost use Rattle.raw_face.specs.Machine.{Stands, moment, switched_off};
     ghost use Rattle.raw_face.specs.Operation.{Does, Finishes};
     ghost use Rattle.raw_face.specs.Output.{IsSinkCause};
-    ghost use Rattle.raw_face.specs.Running.{Happens, goes_on};
+    ghost use Rattle.raw_face.specs.Running.{Happens, IsBelow, end_after, goes_on};
 
     /// A card of depth 31 with 64 cache lines, which is not switched on, registers at their reset values, an engine without
     /// a task, and 1,048,576 bytes of 0 from 0x20000000 on. No fault befalls the bus, and all queued tasks are ready at
@@ -169,7 +169,7 @@ impl Raw {
     pub(crate) fn event<A: Array>(&mut self, array: &mut A) -> Did
         requires stands { Stands self.old (A.state array.old) }
         ensures happens { Happens (moment self.old (A.state array.old)) result (moment self.new (A.state array.new)) }
-        ensures stands { stop_of result ≡ None → Stands self.new (A.state array.new) }
+        ensures stands { end_after result ≡ None → Stands self.new (A.state array.new) }
         ensures ends { EventEnds (link_state (behind self.old.card (A.state array.old) self.old.script)) (link_state (behind self.new.card (A.state array.new) self.new.script)) (stop_of result) }
     {
         event_of_card(
@@ -184,7 +184,8 @@ impl Raw {
 
     // Whether the engine goes on after an event.
     pub(crate) fn goes_on(&self, did: &Did) -> bool
-        ensures { result ≡ goes_on did.now self.now.regs }
+        ensures value { result ≡ goes_on did.now self.now.regs }
+        ensures below { IsBelow did.now self.now.regs }
     {
         goes_on(did, &self.regs)
     }
