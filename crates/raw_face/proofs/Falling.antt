@@ -287,13 +287,13 @@ readied_least true Active place = omega arith
 
 readied_less : (b : Bool) (p : Progress) (place : Option HeldTask) → same p Ready ≡ false → same (cond b (readied p) p) Ready ≡ true
     → todo (cond b (readied p) p) place < todo p place
-readied_less false p place no yes = absurd (false≢true (sym no ∙ yes))
-readied_less true Idle place no yes = absurd (false≢true yes)
-readied_less true Rung place no yes = absurd (false≢true yes)
-readied_less true Named place no yes = absurd (false≢true yes)
-readied_less true Sent place no yes = omega arith
-readied_less true Ready place no yes = absurd (false≢true (sym no))
-readied_less true Active place no yes = absurd (false≢true yes)
+readied_less false p place before then = absurd (false≢true (sym before ∙ then))
+readied_less true Idle place before then = absurd (false≢true then)
+readied_less true Rung place before then = absurd (false≢true then)
+readied_less true Named place before then = absurd (false≢true then)
+readied_less true Sent place before then = omega arith
+readied_less true Ready place before then = absurd (false≢true (sym before))
+readied_less true Active place before then = absurd (false≢true then)
 
 ready_falls : (held : Places) (ring : List Ringed) (word : ℕ) (ready : Option ℕ) → first_at Ready (made_ready ring word) ≡ ready → is_some ready ≡ true
     → IfSome ready (λ slot. slot < 32) → first_at Ready ring ≡ None → Falls held held ring (made_ready ring word)
@@ -304,7 +304,7 @@ ready_falls held ring word (Some slot) e some below none =
     let t = found p q (order_of ring) slot (ap (λ slots. find p (take 32 slots)) (sym (same_order ring word)) ∙ e) none in
     let made : (s : ℕ) → progress_of (made_ready ring word) s ≡ cond (has_bit word s) (readied (progress_of ring s)) (progress_of ring s) =
     λ s. progress_made_ready ring word s in
-    let yes : same (cond (has_bit word slot) (readied (progress_of ring slot)) (progress_of ring slot)) Ready ≡ true =
+    let then : same (cond (has_bit word slot) (readied (progress_of ring slot)) (progress_of ring slot)) Ready ≡ true =
     ap (λ r. same r Ready) (sym (made slot)) ∙ t.0 in
     record {
       least = λ s within.
@@ -314,7 +314,7 @@ ready_falls held ring word (Some slot) e some below none =
       below = below;
       less =
           let P : Progress → Type 0 = λ r. todo r (held_at held slot) < todo_at held ring slot in
-          subst P (sym (made slot)) (readied_less (has_bit word slot) (progress_of ring slot) (held_at held slot) t.1 yes);
+          subst P (sym (made slot)) (readied_less (has_bit word slot) (progress_of ring slot) (held_at held slot) t.1 then);
     }
 
 poll_down : (host : Host) (rca : ℕ) (word : Result ℕ Cause) → first_at Ready host.regs.ring ≡ None

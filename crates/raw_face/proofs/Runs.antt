@@ -160,15 +160,18 @@ halted_over (Stopped cause) regs halt e = refl
 goes_more : (old between new : Moment) (steps : List Step) (did : Did) → GoesOn old steps between → Happens between did new
     → goes_on did new.machine.regs ≡ true → GoesOn old (steps ++ record { did = did; after = new } ∷ []) new
 goes_more old between new [] did before event goes =
-    let P : Moment → Type 0 = λ m. Happens m did new in (subst P before event, (goes, refl))
+    let P : Moment → Type 0 = λ m. Happens m did new in (subst P before event, goes, refl)
 goes_more old between new (step ∷ steps) did before event goes =
-    (before.0, (before.1, goes_more step.after between new steps did before.2 event goes))
+    (before.0, before.1, goes_more step.after between new steps did before.2 event goes)
 
 lines_more : (steps : List Step) (did : Did) (new : Moment)
     → steps_lines (steps ++ record { did = did; after = new } ∷ []) ≡ steps_lines steps ++ lines_of did
 lines_more steps did new =
     flat_map-append (λ step. lines_of step.did) steps (record { did = did; after = new } ∷ [])
     ∙ ap (λ lines. steps_lines steps ++ lines) (append-nil (lines_of did))
+
+abbrev pub failed : Halt → Result (Unit {0}) Halt
+failed halt = Err halt
 
 abbrev with_lines : List RawLine → Option End → Output
 with_lines lines end = record { lines = lines; end = end }
@@ -189,6 +192,14 @@ module _ {K : Type 0} (took : K → List ℕ → K → Type 0) where
     pub event : Happens between did new
     pub shows : Shows took sink (output_after did) result sink'
     pub causes : HasCauses between.array new.array (output_after did)
+
+  pub follows : (between new : Moment) (sink sink' : K) (did : Did) (result : Result (Unit {0}) Halt) (output : Output) → Happens between did new
+      → output ≡ output_after did → Shows took sink output result sink'
+      → EventEnds (link_state (behind_of between)) (link_state (behind_of new)) (stop_of did) → between.array.powered ≡ true
+      → Follows between sink did result new sink'
+  follows between new sink sink' did result output event e shows ends on =
+      let P : Output → Type 0 = λ o. Shows took sink o result sink' in
+      record { event = event; shows = subst P e shows; causes = event_causes between new did ends on }
 
   same_end : (output : Output) → output.end ≡ None → output ≡ shown output.lines
   same_end output e = ap (λ end. with_lines output.lines end) e
@@ -224,7 +235,7 @@ module _ {K : Type 0} (took : K → List ℕ → K → Type 0) where
 
   -- where the script ends with the last event
   pub over_by : (sink sink' : K) (did : Did) (regs : Registers) (halt : Halt) → Shows took sink (output_after did) (Err halt) sink'
-      → Err halt ≢ Err SinkFailed → goes_on did regs ≡ false
+      → failed halt ≢ failed SinkFailed → goes_on did regs ≡ false
   over_by sink sink' did regs SinkFailed shows apart = absurd (apart refl)
   over_by sink sink' did regs OpenFault shows apart = halted_over did regs OpenFault shows.1
   over_by sink sink' did regs PowerGone shows apart = halted_over did regs PowerGone shows.1

@@ -1,5 +1,5 @@
 -- How much the engine has left to do, as a number: the sum over the 32 slots, by how far each is and by the blocks of its task.
-use Rattle.std.proofs.Common.{◌≡◌, ◌≢◌, ◌<◌, ◌≤◌, ◌+◌, ◌-◌, ◌⊎◌, ℕ, zero, suc, length, refl, sym, ◌∙◌, ap, subst, arith, inl, inr, ⊎_elim}
+use Rattle.std.proofs.Common.{◌≡◌, ◌≢◌, ◌<◌, ◌≤◌, ◌+◌, ◌-◌, ◌⊎◌, ℕ, zero, suc, length, refl, sym, ◌∙◌, ap, subst, arith, zero-add, inl, inr, ⊎_elim}
 use Rattle.std.specs.Prelude.{Bool, true, false, Option, Some, None, IsSome, cond, ◌==◌, List, slice_set}
 use Rattle.std.specs.Option.{option_map, option_map_or}
 use Rattle.std.proofs.lemmas.Bool.{eq-eqb, cases_lt}
@@ -88,13 +88,13 @@ remembered-at : (held : Places) (regs : Registers) (s : ℕ) → s < 32
     → held_at (remembered held regs) s ≡ kept (progress_of regs.ring s) (held_at held s)
 unfolding slots
 remembered-at held regs s below =
-    get_or-map-range_with_len (λ slot. kept (progress_of regs.ring slot) (held_at held slot)) 0 32 s s None below refl
+    get_or-map-range_with_len (λ slot. kept (progress_of regs.ring slot) (held_at held slot)) 0 32 s s None below (zero-add s)
 
 noted-at : (held : Places) (regs : Registers) (s : ℕ) → s < 32
     → held_at (noted held regs) s ≡ left_at (progress_of regs.ring s) (held_at held s)
 unfolding slots
 noted-at held regs s below =
-    get_or-map-range_with_len (λ slot. left_at (progress_of regs.ring slot) (held_at held slot)) 0 32 s s None below refl
+    get_or-map-range_with_len (λ slot. left_at (progress_of regs.ring slot) (held_at held slot)) 0 32 s s None below (zero-add s)
 
 kept-left : (p : Progress) (place : Option HeldTask) → kept p (left_at p place) ≡ left_at p place
 kept-left p None = refl
