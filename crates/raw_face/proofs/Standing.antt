@@ -21,6 +21,7 @@ pub quiet_causes : (array : ArrayState) (output : Output) → IsQuiet output →
 quiet_causes array output q = record {
   faults = later_same array.faults;
   cuts = later_same array.cuts;
+  once = omega (arith, q.none);
   flash = λ any. absurd (false≢true (sym q.lines ∙ any));
   fault = λ e. absurd (goes_not Fault (sym q.end ∙ e));
   dead = λ e. absurd (goes_not Dead (sym q.end ∙ e));
