@@ -28,6 +28,10 @@ none_used depth = record { depth = depth; used = 0 }
 abbrev pub lowest_free : TagSet → Option ℕ
 lowest_free tags = find (λ tag. not (is_used tags tag)) (range_with_len 0 tags.depth)
 
+-- each tag below a number is used
+abbrev pub AreUsedBelow : TagSet → ℕ → Type 0
+AreUsedBelow tags bound = (tag : ℕ) → tag < bound → is_used tags tag ≡ true
+
 -- one more tag used
 abbrev pub with_tag : TagSet → ℕ → TagSet
 with_tag tags tag = record tags { used = bit_or tags.used (2 ^ tag) }

@@ -1,6 +1,8 @@
-ghost use Rattle.std.specs.Prelude.{◌≡◌, ◌==◌, ◌<◌, ◌≤◌, ◌^◌, ℕ, true, false, IfSome, IfNone};
+ghost use Rattle.std.specs.Prelude.{◌≡◌, ◌==◌, ◌<◌, ◌≤◌, ◌-◌, ◌^◌, ℕ, true, false, IfSome, IfNone};
 ghost use Rattle.std.specs.Int.{bit_at};
+ghost use Rattle.std.specs.Int.RustNames.{bit_and, bit_or};
 ghost use Rattle.std.specs.Option.{option_map_or};
+ghost use Rattle.drv_tags.specs.Tags.{is_used, AreUsedBelow};
 
 use std::marker::Model;
 
@@ -22,7 +24,7 @@ impl Model for Tags {
 }
 
 impl Tags {
-    ghost use Rattle.drv_tags.specs.Tags.{is_used, lowest_free, none_used, with_tag, without_tag, ChangesTag};
+    ghost use Rattle.drv_tags.specs.Tags.{is_used, lowest_free, none_used, with_tag, without_tag, AreUsedBelow, ChangesTag};
 
     /// The tags 0 to `depth` - 1, of which none is used.
     pub fn new(depth: u8) -> Tags
@@ -37,12 +39,12 @@ impl Tags {
         ensures lowest { result ≡ lowest_free self.old }
         ensures below { IfSome result (λ tag. tag < self.old.depth) }
         ensures free { IfSome result (λ tag. is_used self.old tag ≡ false) }
+        ensures all { IfNone result (AreUsedBelow self.old self.old.depth) }
         ensures after { self.new ≡ option_map_or (with_tag self.old) result self.old }
         ensures taken { IfSome result (λ tag. ChangesTag self.old self.new tag true) }
-        ensures all { IfNone result ((tag : ℕ) → tag < self.old.depth → is_used self.old tag ≡ true) }
     {
         let tag = lowest_free(self.used, self.depth)?;
-        self.used |= tag_bit(tag);
+        self.used = with_bit(self.used, tag);
         Some(tag)
     }
 
@@ -52,7 +54,7 @@ impl Tags {
         ensures after { self.new ≡ without_tag self.old tag }
         ensures given { ChangesTag self.old self.new tag false }
     {
-        self.used &= !tag_bit(tag);
+        self.used = without_bit(self.used, tag);
     }
 
     /// The word with the bit of each used tag.
@@ -68,13 +70,36 @@ impl Tags {
 // The lowest of the first tags whose bit is 0 in the word of the used ones.
 fn lowest_free(used: u32, depth: u8) -> Option<u8>
     requires { depth ≤ 31 }
+    ensures below { IfSome result (λ tag. tag < depth) }
+    ensures free { IfSome result (λ tag. is_used (record { depth = depth; used = used }) tag ≡ false) }
+    ensures lowest { IfSome result (λ tag. AreUsedBelow (record { depth = depth; used = used }) tag) }
+    ensures all { IfNone result (AreUsedBelow (record { depth = depth; used = used }) depth) }
 {
-    (0..depth).find(|&tag| used >> tag & 1 == 0)
+    for tag in 0..depth {
+        if !is_set(used, tag) {
+            return Some(tag);
+        }
+    }
+    None
 }
 
-fn tag_bit(tag: u8) -> u32
+fn is_set(word: u32, tag: u8) -> bool
     requires { tag < 32 }
-    ensures { result ≡ 2 ^ tag }
+    ensures { result ≡ (bit_at word tag == 1) }
 {
-    1 << tag
+    word >> tag & 1 == 1
+}
+
+fn with_bit(word: u32, tag: u8) -> u32
+    requires { tag < 32 }
+    ensures { result ≡ bit_or word (2 ^ tag) }
+{
+    word | 1 << tag
+}
+
+fn without_bit(word: u32, tag: u8) -> u32
+    requires { tag < 32 }
+    ensures { result ≡ bit_and word (2 ^ 32 - 1 - 2 ^ tag) }
+{
+    word & !(1 << tag)
 }
