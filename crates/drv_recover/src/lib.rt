@@ -1,13 +1,10 @@
-// A library with one function.
+//! The recovery of the host interface after a stop of the engine, an event at a time (cqhci_recovery_start and
+//! cqhci_recovery_finish of drivers/mmc/host/cqhci-core.c).
 #![tactic(auto)]
 
-ghost use Rattle.std.specs.Prelude.{◌≡◌};
-ghost use Rattle.drv_recover.specs.Echo.{echo_of};
+mod recovery;
 
-// The `ensures` clause is the contract: what `echo` returns is `echo_of` of its argument, a definition
-// in `specs/Echo.antt`, which a caller's clause can cite too.
-pub fn echo(x: usize) -> usize
-    ensures { result ≡ echo_of x }
-{
-    x
-}
+pub use recovery::{Recovery, RecoveryState, Step};
+
+#[cfg(test)]
+mod tests;
