@@ -69,9 +69,9 @@ pub record Discards {L : Type 0} (made : L → Call → L → Type 0) (old new :
   pub told : step ≡ told_by answer
 
 -- nothing crossed the link
-pub record Silent {L : Type 0} (old new : L) (step told : Step) : Type 0 where
+pub record Silent {L : Type 0} (old new : L) (step expected : Step) : Type 0 where
   pub link : new ≡ old
-  pub told : step ≡ told
+  pub told : step ≡ expected
 
 -- what crosses the link in an event, and what it tells
 abbrev pub Does : {L : Type 0} → (L → Call → L → Type 0) → (old new : L) → RecoveryState → Step → Type 0
@@ -83,7 +83,7 @@ Does made old new state step = Silent old new step Moved
 pub record Event {L : Type 0} (made : L → Call → L → Type 0) (old new : L) (state state' : RecoveryState) (regs regs' : Registers)
     (step : Step) : Type 0 where
   pub does : Does made old new state step
-  pub state : state' ≡ state_after state step
+  pub place : state' ≡ state_after state step
   pub registers : regs' ≡ registers_after state regs
 
 -- halted, no task is rung or sent, and the engine is not stopped
