@@ -156,6 +156,7 @@ over-recovers made old new (step ∷ steps) goes at = over-recovers made goes.0 
 -- a CMD48 for the whole queue was answered
 pub recovered : {L : Type 0} (made : L → Call → L → Type 0) (old new : Moment L) (steps : List Step) → old.state ≡ Calm
     → Recovers made old new steps → IsOver new.regs × (list_any is_discard steps ≡ true)
-recovered made old new steps calm goes =
-    (over-recovers made old new steps goes (subst (λ state. IsAt state old.regs) (sym calm) tt),
-     subst (λ state. (has_discarded state || list_any is_discard steps) ≡ true) calm (discarded-before_over made old new steps goes))
+recovered made old new steps calm goes = (
+  over-recovers made old new steps goes (subst (λ state. IsAt state old.regs) (sym calm) tt),
+  subst (λ state. (has_discarded state || list_any is_discard steps) ≡ true) calm (discarded-before_over made old new steps goes),
+)

@@ -1,8 +1,7 @@
 -- The recovery of the host interface after a stop: halt, clear all tasks, discard the queue of the card, clear what was
 -- notified, and resume (cqhci_recovery_start and cqhci_recovery_finish of drivers/mmc/host/cqhci-core.c; mmc_cqe_recovery of
 -- drivers/mmc/core/core.c; CMD48 in JESD84-B51, section 6.6.39).
-use Rattle.std.specs.Prelude.{◌≡◌, ℕ, [], Result, Ok, Err, false, true}
-use Rattle.storage_model.specs.declared.faults.BusKind.{BusKind}
+use Rattle.std.specs.Prelude.{◌≡◌, ◌<◌, ℕ, [], Result, Ok, Err, false, true}
 use Rattle.cmd_words.specs.declared.command.Command.{Command}
 use Rattle.cmd_words.specs.declared.command.Command.TheVariants.{Manage}
 use Rattle.bus_link.specs.declared.link.LinkEnd.{LinkEnd}
@@ -12,6 +11,7 @@ use Rattle.bus_link.specs.Link.Call.{Exchanged}
 use Rattle.cq_regs.specs.declared.table.Register.TheVariants.{InterruptStatus, CompletionNotification}
 use Rattle.cq_regs.specs.declared.table.Access.TheVariants.{OneClears}
 use Rattle.cq_regs.specs.State.{Registers}
+use Rattle.cq_regs.specs.Slots.{has_bit}
 use Rattle.cq_regs.specs.Effects.{controlled, written_by}
 use Rattle.drv_recover.specs.declared.recovery.RecoveryState.{RecoveryState}
 use Rattle.drv_recover.specs.declared.recovery.RecoveryState.TheVariants.{Calm, Halted, Cleared, Discarded, Cleaned, Resumed}
@@ -31,6 +31,10 @@ resumed regs = controlled regs 0
 -- interrupt status and completion notification cleared: a 1 is written to each of their bits
 abbrev pub cleaned : Registers → Registers
 cleaned regs = written_by OneClears (written_by OneClears regs InterruptStatus 0xf) CompletionNotification 0xffff_ffff
+
+-- no bit of the interrupt status is set
+abbrev pub IsQuiet : Registers → Type 0
+IsQuiet regs = (bit : ℕ) → bit < 4 → has_bit regs.interrupts bit ≡ false
 
 -- the registers after an event; what CMD48 is answered changes none
 abbrev pub registers_after : RecoveryState → Registers → Registers

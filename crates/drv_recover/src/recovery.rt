@@ -1,7 +1,7 @@
 ghost use Rattle.std.specs.Prelude.{◌≡◌, ◌↔◌, IsTrue};
 ghost use Rattle.cq_regs.specs.Effects.{controlled};
 ghost use Rattle.drv_recover.specs.Ends.{Uses};
-ghost use Rattle.drv_recover.specs.Recovery.{cleaned, Discards};
+ghost use Rattle.drv_recover.specs.Recovery.{cleaned, Discards, IsQuiet};
 
 use bus_link::{Link, LinkEnd};
 use cmd_words::Command;
@@ -78,7 +78,7 @@ impl Model for Recovery {
 }
 
 impl Recovery {
-    ghost use Rattle.drv_recover.specs.declared.recovery.RecoveryState.TheVariants.{Calm};
+    ghost use Rattle.drv_recover.specs.declared.recovery.RecoveryState.TheVariants.{Calm, Discarded};
     ghost use Rattle.drv_recover.specs.declared.recovery.Step.TheVariants.{Over};
     ghost use Rattle.drv_recover.specs.Recovery.{Event, IsAt, IsOver};
 
@@ -121,6 +121,7 @@ impl Recovery {
         requires { L.fits link.old }
         ensures event { Event L.made link.old link.new self.old self.new regs.old regs.new result }
         ensures uses { Uses L.keeps L.fits L.state link.old link.new result }
+        ensures quiet { self.old ≡ Discarded → IsQuiet regs.new }
         ensures at { IsAt self.old regs.old → IsAt self.new regs.new }
         ensures over { IsAt self.old regs.old → result ≡ Over → IsOver regs.new }
     {
@@ -169,7 +170,8 @@ fn write_control(regs: &mut Regs, value: u32)
 
 // Clears the interrupt status and the completion notification.
 fn clean(regs: &mut Regs)
-    ensures { regs.new ≡ cleaned regs.old }
+    ensures after { regs.new ≡ cleaned regs.old }
+    ensures quiet { IsQuiet regs.new }
 {
     let _ = regs.write(INTERRUPT_STATUS, ALL_INTERRUPTS);
     let _ = regs.write(COMPLETION_NOTIFICATION, u32::MAX);

@@ -1,5 +1,5 @@
 -- What taking and giving a tag do to each tag, and the first of some numbers that passes a test.
-use Rattle.std.proofs.Common.{◌≡◌, ◌≢◌, ℕ, zero, suc, ◌+◌, ◌-◌, ◌^◌, ◌<◌, ◌≤◌, Bool, true, false, refl, sym, ap, ◌∙◌, subst, max, min, arith}
+use Rattle.std.proofs.Common.{◌≡◌, ◌≢◌, ℕ, zero, suc, ◌+◌, ◌-◌, ◌^◌, ◌<◌, Bool, true, false, refl, sym, ap, ◌∙◌, subst, arith}
 use Rattle.std.specs.Prelude.{◌==◌, cond, not, nat_lt, Some, None}
 use Rattle.std.specs.Int.{bit_at, w32}
 use Rattle.std.specs.Int.RustNames.{bit_and, bit_or}

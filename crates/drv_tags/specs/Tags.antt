@@ -1,10 +1,9 @@
 -- The tags of the driver: each task that it gives to the engine takes a slot of the task descriptor list, by its tag
 -- (request tags of the block layer, and the slots of drivers/mmc/host/cqhci-core.c).
-use Rattle.std.specs.Prelude.{◌≡◌, ℕ, ◌<◌, ◌≤◌, ◌-◌, ◌^◌, ◌==◌, Bool, true, false, not, Option, if◌then◌else◌}
+use Rattle.std.specs.Prelude.{◌≡◌, ℕ, ◌<◌, ◌≤◌, ◌-◌, ◌^◌, ◌==◌, Bool, true, not, Option, if◌then◌else◌}
 use Rattle.std.specs.Int.{bit_at}
 use Rattle.std.specs.Int.RustNames.{bit_and, bit_or}
 use Rattle.std.specs.List.{find, range_with_len}
-use Rattle.std.specs.Option.{option_map_or}
 
 -- how many tags there are, and the word with the bit of each used one
 pub record TagSet : Type 0 where
