@@ -1,0 +1,40 @@
+// The blocks that a request lists.
+use storage_model::{Block, BlockList, Fill, Job, NoMemory};
+use text_words::read_hex_bytes;
+
+// The digits of a block.
+const DIGITS: usize = 1024;
+
+// Adds the blocks that a request lists, whose digits these are, if they are the digits of as many blocks.
+pub fn take_listed(job: &Job, digits: &[u8], blocks: &mut BlockList) -> Result<bool, NoMemory> {
+    match job {
+        Job::Write {
+            blocks: count,
+            fill: Fill::Listed(_),
+            ..
+        } => take_blocks(digits, *count, blocks),
+        _ => Ok(true),
+    }
+}
+
+// Adds `count` blocks, if these are their digits. Else what it added is of no use.
+fn take_blocks(digits: &[u8], count: u16, blocks: &mut BlockList) -> Result<bool, NoMemory> {
+    let mut rest = digits;
+    for _ in 0..count {
+        let Some((block, after)) = next_block(rest) else {
+            return Ok(false);
+        };
+        blocks.push(block)?;
+        rest = after;
+    }
+    Ok(rest.is_empty())
+}
+
+// The block whose digits stand in front, and what follows them.
+fn next_block(rest: &[u8]) -> Option<(Block, &[u8])> {
+    if rest.len() < DIGITS {
+        return None;
+    }
+    let bytes = read_hex_bytes(&rest[..DIGITS])?;
+    Some((Block(bytes), &rest[DIGITS..]))
+}

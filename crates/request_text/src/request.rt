@@ -1,0 +1,142 @@
+// The line of a request.
+ghost use Rattle.std.specs.Prelude.{◌≡◌, ◌<◌, ◌∷◌, ◌++◌, [], ℕ, List, All, IfSome, IfNone, codes, decimal};
+ghost use Rattle.storage_model.specs.declared.plan.Job.{Job};
+ghost use Rattle.text_words.specs.Reads.{Reads};
+ghost use Rattle.text_words.specs.Words.{spaced};
+ghost use Rattle.request_text.specs.Requests.{IsFill, IsJob, IsPlacedAt, IsRange, fill_words, flag_words, job_words};
+
+use storage_model::{Fill, Job};
+use text_words::{Words, read_decimal, read_decimal_in, read_hex_byte};
+
+const MAX_BLOCKS: u16 = 1024;
+
+// The request of a line, given without its line feed, and the digits of the blocks that it lists, if it does. They will
+// stand from `place` on.
+pub fn read_job(line: &[u8], place: u32) -> Option<(Job, &[u8])>
+    ensures some { IfSome result (λ read. IsJob read.0 × IsPlacedAt place read.0 × (line.now ≡ spaced (job_words read.1.now read.0))) }
+    ensures none { IfNone result ((job : Job) (digits : List ℕ) → IsJob job → IsPlacedAt place job → All (λ b. 32 < b) digits → ¬ (line.now ≡ spaced (job_words digits job))) }
+{
+    let mut words = Words::of(line);
+    let first = words.next()?;
+    job_of(first, words, place)
+}
+
+fn job_of<'a>(first: &'a [u8], words: Words<'a>, place: u32) -> Option<(Job, &'a [u8])>
+    ensures some { IfSome result (λ read. IsJob read.0 × IsPlacedAt place read.0 × (first.now ∷ words.entry ≡ job_words read.1.now read.0)) }
+    ensures none { IfNone result ((job : Job) (digits : List ℕ) → IsJob job → IsPlacedAt place job → ¬ (first.now ∷ words.entry ≡ job_words digits job)) }
+{
+    match first {
+        b"write" => write_of(words, place),
+        _ => Some((other_of(first, words)?, first)),
+    }
+}
+
+// A request that is no write.
+fn other_of(first: &[u8], words: Words) -> Option<Job> {
+    match first {
+        b"read" => read_of(words),
+        b"flush" => alone(words, Job::Flush),
+        b"barrier" => alone(words, Job::Barrier),
+        b"status" => alone(words, Job::Status),
+        _ => None,
+    }
+}
+
+fn alone(words: Words, job: Job) -> Option<Job> {
+    words.end()?;
+    Some(job)
+}
+
+// `S N` and maybe `high`, what follows `read`.
+fn read_of(mut words: Words) -> Option<Job> {
+    let sector = read_decimal(words.next()?)?;
+    let blocks = read_decimal_in(words.next()?, 1, MAX_BLOCKS)?;
+    let high = last_high(words)?;
+    Some(Job::Read {
+        sector,
+        blocks,
+        high,
+    })
+}
+
+// `S N DATA` and the flags, what follows `write`; with it the word after DATA's first.
+fn write_of<'a>(mut words: Words<'a>, place: u32) -> Option<(Job, &'a [u8])> {
+    let sector = read_decimal(words.next()?)?;
+    let blocks = read_decimal_in(words.next()?, 1, MAX_BLOCKS)?;
+    let kind = words.next()?;
+    let value = words.next()?;
+    let fill = fill_of(kind, value, place)?;
+    let (forced, reliable, high) = flags(words)?;
+    let job = Job::Write {
+        sector,
+        blocks,
+        fill,
+        forced,
+        reliable,
+        high,
+    };
+    Some((job, value))
+}
+
+fn fill_of(kind: &[u8], value: &[u8], place: u32) -> Option<Fill> {
+    match kind {
+        b"fill" => Some(Fill::Same(read_hex_byte(value)?)),
+        b"ramp" => Some(Fill::Ramp(byte(value)?)),
+        b"hex" => Some(Fill::Listed(place)),
+        _ => None,
+    }
+}
+
+fn byte(word: &[u8]) -> Option<u8> {
+    let number = read_decimal_in(word, 0, 255)?;
+    Some(number as u8)
+}
+
+// The flags of a write, `forced`, `reliable` and `high` in this order, and no more.
+fn flags(mut words: Words) -> Option<(bool, bool, bool)> {
+    match words.next() {
+        None => Some((false, false, false)),
+        Some(b"forced") => {
+            let (reliable, high) = later_flags(words)?;
+            Some((true, reliable, high))
+        }
+        Some(word) => {
+            let (reliable, high) = flags_from(word, words)?;
+            Some((false, reliable, high))
+        }
+    }
+}
+
+fn later_flags(mut words: Words) -> Option<(bool, bool)> {
+    match words.next() {
+        None => Some((false, false)),
+        Some(word) => flags_from(word, words),
+    }
+}
+
+fn flags_from(first: &[u8], words: Words) -> Option<(bool, bool)> {
+    match first {
+        b"reliable" => {
+            let high = last_high(words)?;
+            Some((true, high))
+        }
+        b"high" => {
+            words.end()?;
+            Some((false, true))
+        }
+        _ => None,
+    }
+}
+
+fn last_high(mut words: Words) -> Option<bool>
+    ensures { Reads result (λ high. words.entry ≡ flag_words (codes "high") high) }
+{
+    match words.next() {
+        None => Some(false),
+        Some(b"high") => {
+            words.end()?;
+            Some(true)
+        }
+        Some(_) => None,
+    }
+}
