@@ -23,20 +23,29 @@ abbrev pub flag_words : List ℕ → Bool → List (List ℕ)
 flag_words word true = word ∷ []
 flag_words word false = []
 
+-- the flags of a write that stand after `forced`
+abbrev pub later_words : Bool → Bool → List (List ℕ)
+later_words reliable high = flag_words (codes "reliable") reliable ++ flag_words (codes "high") high
+
 -- the words of a request whose listed blocks have these digits
 abbrev pub job_words : List ℕ → Job → List (List ℕ)
 job_words digits (Read sector blocks high) = codes "read" ∷ decimal sector ∷ decimal blocks ∷ flag_words (codes "high") high
 job_words digits (Write sector blocks fill forced reliable high) =
     codes "write" ∷ decimal sector ∷ decimal blocks ∷ fill_words digits fill
-    ++ flag_words (codes "forced") forced ++ flag_words (codes "reliable") reliable ++ flag_words (codes "high") high
+    ++ flag_words (codes "forced") forced ++ later_words reliable high
 job_words digits Flush = codes "flush" ∷ []
 job_words digits Barrier = codes "barrier" ∷ []
 job_words digits Status = codes "status" ∷ []
 
+-- so many blocks of the list, where contents are listed
+abbrev pub listed_blocks : List Block → Fill → ℕ → List Block
+listed_blocks blocks (Listed place) count = take count (drop place blocks)
+listed_blocks blocks fill count = []
+
 -- the blocks of the list that a request names
 abbrev pub named_blocks : List Block → Job → List Block
-named_blocks blocks (Write sector count (Listed place) forced reliable high) = take count (drop place blocks)
-named_blocks blocks _ = []
+named_blocks blocks (Write sector count fill forced reliable high) = listed_blocks blocks fill count
+named_blocks blocks job = []
 
 -- the line of a request, with its line feed
 unfoldable pub request_text : List Block → Job → List ℕ
@@ -60,22 +69,35 @@ IsFill (Listed place) = Unit {0}
 abbrev pub IsJob : Job → Type 0
 IsJob (Read sector count high) = IsRange sector count
 IsJob (Write sector count fill forced reliable high) = IsRange sector count × IsFill fill
-IsJob _ = Unit {0}
+IsJob job = Unit {0}
+
+-- a request that is no write
+abbrev pub IsOther : Job → Type 0
+IsOther (Write sector count fill forced reliable high) = ⊥
+IsOther job = Unit {0}
 
 -- 512 bytes
 pub record IsBlock (block : Block) : Type 0 where
   pub bytes : IsBytes block.0
   pub long : length block.0 ≡ 512
 
+abbrev pub listed_count : Fill → ℕ → ℕ
+listed_count (Listed place) count = count
+listed_count fill count = 0
+
 -- how many blocks a request lists
 abbrev pub listed_by : Job → ℕ
-listed_by (Write sector count (Listed place) forced reliable high) = count
-listed_by _ = 0
+listed_by (Write sector count fill forced reliable high) = listed_count fill count
+listed_by job = 0
 
--- the place of its listed blocks, if it has any
+abbrev pub IsFillAt : ℕ → Fill → Type 0
+IsFillAt at (Listed place) = place ≡ at
+IsFillAt at fill = Unit {0}
+
+-- the blocks that a request lists, if it lists any, stand from this place on
 abbrev pub IsPlacedAt : ℕ → Job → Type 0
-IsPlacedAt at (Write sector count (Listed place) forced reliable high) = place ≡ at
-IsPlacedAt at _ = Unit {0}
+IsPlacedAt at (Write sector count fill forced reliable high) = IsFillAt at fill
+IsPlacedAt at job = Unit {0}
 
 -- listed blocks follow one another in the order of their requests, from a place on up to an end
 abbrev pub ArePlaced : ℕ → List Job → ℕ → Type 0

@@ -3,7 +3,7 @@ ghost use Rattle.std.specs.Prelude.{◌≡◌, ◌<◌, ◌∷◌, ◌++◌, [],
 ghost use Rattle.storage_model.specs.declared.plan.Job.{Job};
 ghost use Rattle.text_words.specs.Reads.{Reads};
 ghost use Rattle.text_words.specs.Words.{spaced};
-ghost use Rattle.request_text.specs.Requests.{IsFill, IsJob, IsPlacedAt, IsRange, fill_words, flag_words, job_words};
+ghost use Rattle.request_text.specs.Requests.{IsFill, IsFillAt, IsJob, IsOther, IsPlacedAt, fill_words, flag_words, job_words, later_words};
 
 use storage_model::{Fill, Job};
 use text_words::{Words, read_decimal, read_decimal_in, read_hex_byte};
@@ -32,7 +32,9 @@ fn job_of<'a>(first: &'a [u8], words: Words<'a>, place: u32) -> Option<(Job, &'a
 }
 
 // A request that is no write.
-fn other_of(first: &[u8], words: Words) -> Option<Job> {
+fn other_of(first: &[u8], words: Words) -> Option<Job>
+    ensures { Reads result (λ job. IsOther job × IsJob job × (first.now ∷ words.entry ≡ job_words [] job)) }
+{
     match first {
         b"read" => read_of(words),
         b"flush" => alone(words, Job::Flush),
@@ -42,13 +44,17 @@ fn other_of(first: &[u8], words: Words) -> Option<Job> {
     }
 }
 
-fn alone(words: Words, job: Job) -> Option<Job> {
+fn alone(words: Words, job: Job) -> Option<Job>
+    ensures { Reads result (λ only. (only ≡ job) × (words.entry ≡ [])) }
+{
     words.end()?;
     Some(job)
 }
 
 // `S N` and maybe `high`, what follows `read`.
-fn read_of(mut words: Words) -> Option<Job> {
+fn read_of(mut words: Words) -> Option<Job>
+    ensures { Reads result (λ job. IsOther job × IsJob job × (codes "read" ∷ words.entry ≡ job_words [] job)) }
+{
     let sector = read_decimal(words.next()?)?;
     let blocks = read_decimal_in(words.next()?, 1, MAX_BLOCKS)?;
     let high = last_high(words)?;
@@ -60,7 +66,10 @@ fn read_of(mut words: Words) -> Option<Job> {
 }
 
 // `S N DATA` and the flags, what follows `write`; with it the word after DATA's first.
-fn write_of<'a>(mut words: Words<'a>, place: u32) -> Option<(Job, &'a [u8])> {
+fn write_of<'a>(mut words: Words<'a>, place: u32) -> Option<(Job, &'a [u8])>
+    ensures some { IfSome result (λ read. IsJob read.0 × IsPlacedAt place read.0 × (codes "write" ∷ words.entry ≡ job_words read.1.now read.0)) }
+    ensures none { IfNone result ((job : Job) (digits : List ℕ) → IsJob job → IsPlacedAt place job → ¬ (codes "write" ∷ words.entry ≡ job_words digits job)) }
+{
     let sector = read_decimal(words.next()?)?;
     let blocks = read_decimal_in(words.next()?, 1, MAX_BLOCKS)?;
     let kind = words.next()?;
@@ -78,7 +87,9 @@ fn write_of<'a>(mut words: Words<'a>, place: u32) -> Option<(Job, &'a [u8])> {
     Some((job, value))
 }
 
-fn fill_of(kind: &[u8], value: &[u8], place: u32) -> Option<Fill> {
+fn fill_of(kind: &[u8], value: &[u8], place: u32) -> Option<Fill>
+    ensures { Reads result (λ fill. IsFill fill × IsFillAt place fill × (kind.now ∷ value.now ∷ [] ≡ fill_words value.now fill)) }
+{
     match kind {
         b"fill" => Some(Fill::Same(read_hex_byte(value)?)),
         b"ramp" => Some(Fill::Ramp(byte(value)?)),
@@ -87,13 +98,17 @@ fn fill_of(kind: &[u8], value: &[u8], place: u32) -> Option<Fill> {
     }
 }
 
-fn byte(word: &[u8]) -> Option<u8> {
+fn byte(word: &[u8]) -> Option<u8>
+    ensures { Reads result (λ n. (n < 2 ^ 8) × (word.now ≡ decimal n)) }
+{
     let number = read_decimal_in(word, 0, 255)?;
     Some(number as u8)
 }
 
 // The flags of a write, `forced`, `reliable` and `high` in this order, and no more.
-fn flags(mut words: Words) -> Option<(bool, bool, bool)> {
+fn flags(mut words: Words) -> Option<(bool, bool, bool)>
+    ensures { Reads result (λ set. words.entry ≡ flag_words (codes "forced") set.0 ++ later_words set.1 set.2) }
+{
     match words.next() {
         None => Some((false, false, false)),
         Some(b"forced") => {
@@ -107,14 +122,18 @@ fn flags(mut words: Words) -> Option<(bool, bool, bool)> {
     }
 }
 
-fn later_flags(mut words: Words) -> Option<(bool, bool)> {
+fn later_flags(mut words: Words) -> Option<(bool, bool)>
+    ensures { Reads result (λ set. words.entry ≡ later_words set.0 set.1) }
+{
     match words.next() {
         None => Some((false, false)),
         Some(word) => flags_from(word, words),
     }
 }
 
-fn flags_from(first: &[u8], words: Words) -> Option<(bool, bool)> {
+fn flags_from(first: &[u8], words: Words) -> Option<(bool, bool)>
+    ensures { Reads result (λ set. first.now ∷ words.entry ≡ later_words set.0 set.1) }
+{
     match first {
         b"reliable" => {
             let high = last_high(words)?;
