@@ -1,1 +1,3 @@
+pub mod JobTexts
+pub mod JobWords
 pub mod SettingTexts

@@ -7,16 +7,31 @@ use Rattle.storage_model.specs.declared.plan.Fill.TheVariants.{Same, Ramp, Liste
 use Rattle.storage_model.specs.declared.plan.Job.{Job}
 use Rattle.storage_model.specs.declared.plan.Job.TheVariants.{Read, Write, Flush, Barrier, Status}
 use Rattle.text_words.specs.Words.{line, hex_byte}
+use Rattle.request_text.specs.declared.request.Contents.{Contents}
+use Rattle.request_text.specs.declared.request.Contents.TheVariants.{Fill as FillContents, Ramp as RampContents, Hex as HexContents}
+use Rattle.request_text.specs.declared.request.Flag.{Flag}
+use Rattle.request_text.specs.declared.request.Flag.TheVariants.{Forced, Reliable, High}
 
 -- two lower case digits for each byte of each block
 abbrev pub digits_of : List Block → List ℕ
 digits_of blocks = flat_map (λ block. encode_lower block.0) blocks
+
+-- the first word of a write's contents
+abbrev pub contents_text : Contents → List ℕ
+contents_text FillContents = codes "fill"
+contents_text RampContents = codes "ramp"
+contents_text HexContents = codes "hex"
 
 -- the words of a write's contents. Listed blocks stand there as digits
 abbrev pub fill_words : List ℕ → Fill → List (List ℕ)
 fill_words digits (Same byte) = codes "fill" ∷ hex_byte byte ∷ []
 fill_words digits (Ramp start) = codes "ramp" ∷ decimal start ∷ []
 fill_words digits (Listed place) = codes "hex" ∷ digits ∷ []
+
+abbrev pub flag_text : Flag → List ℕ
+flag_text Forced = codes "forced"
+flag_text Reliable = codes "reliable"
+flag_text High = codes "high"
 
 -- a word that stands where its flag is set
 abbrev pub flag_words : List ℕ → Bool → List (List ℕ)
@@ -27,12 +42,15 @@ flag_words word false = []
 abbrev pub later_words : Bool → Bool → List (List ℕ)
 later_words reliable high = flag_words (codes "reliable") reliable ++ flag_words (codes "high") high
 
+-- the flags of a write
+abbrev pub all_words : Bool → Bool → Bool → List (List ℕ)
+all_words forced reliable high = flag_words (codes "forced") forced ++ later_words reliable high
+
 -- the words of a request whose listed blocks have these digits
 abbrev pub job_words : List ℕ → Job → List (List ℕ)
 job_words digits (Read sector blocks high) = codes "read" ∷ decimal sector ∷ decimal blocks ∷ flag_words (codes "high") high
 job_words digits (Write sector blocks fill forced reliable high) =
-    codes "write" ∷ decimal sector ∷ decimal blocks ∷ fill_words digits fill
-    ++ flag_words (codes "forced") forced ++ later_words reliable high
+    codes "write" ∷ decimal sector ∷ decimal blocks ∷ fill_words digits fill ++ all_words forced reliable high
 job_words digits Flush = codes "flush" ∷ []
 job_words digits Barrier = codes "barrier" ∷ []
 job_words digits Status = codes "status" ∷ []

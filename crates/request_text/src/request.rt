@@ -1,9 +1,9 @@
 // The line of a request.
-ghost use Rattle.std.specs.Prelude.{◌≡◌, ◌<◌, ◌∷◌, ◌++◌, [], ℕ, List, All, IfSome, IfNone, codes, decimal};
+ghost use Rattle.std.specs.Prelude.{◌≡◌, ◌^◌, ◌<◌, ◌∷◌, ◌++◌, [], ℕ, List, All, IfSome, IfNone, codes, decimal};
 ghost use Rattle.storage_model.specs.declared.plan.Job.{Job};
 ghost use Rattle.text_words.specs.Reads.{Reads};
 ghost use Rattle.text_words.specs.Words.{spaced};
-ghost use Rattle.request_text.specs.Requests.{IsFill, IsFillAt, IsJob, IsOther, IsPlacedAt, fill_words, flag_words, job_words, later_words};
+ghost use Rattle.request_text.specs.Requests.{IsFill, IsFillAt, IsJob, IsOther, IsPlacedAt, all_words, contents_text, fill_words, flag_text, flag_words, job_words, later_words};
 
 use storage_model::{Fill, Job};
 use text_words::{Words, read_decimal, read_decimal_in, read_hex_byte};
@@ -18,7 +18,8 @@ pub fn read_job(line: &[u8], place: u32) -> Option<(Job, &[u8])>
 {
     let mut words = Words::of(line);
     let first = words.next()?;
-    job_of(first, words, place)
+    let (job, digits) = job_of(first, words, place)?;
+    Some((job, digits))
 }
 
 fn job_of<'a>(first: &'a [u8], words: Words<'a>, place: u32) -> Option<(Job, &'a [u8])>
@@ -72,9 +73,9 @@ fn write_of<'a>(mut words: Words<'a>, place: u32) -> Option<(Job, &'a [u8])>
 {
     let sector = read_decimal(words.next()?)?;
     let blocks = read_decimal_in(words.next()?, 1, MAX_BLOCKS)?;
-    let kind = words.next()?;
+    let contents = read_contents(words.next()?)?;
     let value = words.next()?;
-    let fill = fill_of(kind, value, place)?;
+    let fill = fill_of(contents, value, place)?;
     let (forced, reliable, high) = flags(words)?;
     let job = Job::Write {
         sector,
@@ -87,14 +88,32 @@ fn write_of<'a>(mut words: Words<'a>, place: u32) -> Option<(Job, &'a [u8])>
     Some((job, value))
 }
 
-fn fill_of(kind: &[u8], value: &[u8], place: u32) -> Option<Fill>
-    ensures { Reads result (λ fill. IsFill fill × IsFillAt place fill × (kind.now ∷ value.now ∷ [] ≡ fill_words value.now fill)) }
+// The first word of a write's contents.
+#[derive(Clone, Copy)]
+pub enum Contents {
+    Fill,
+    Ramp,
+    Hex,
+}
+
+fn read_contents(word: &[u8]) -> Option<Contents>
+    ensures { Reads result (λ contents. word.now ≡ contents_text contents) }
 {
-    match kind {
-        b"fill" => Some(Fill::Same(read_hex_byte(value)?)),
-        b"ramp" => Some(Fill::Ramp(byte(value)?)),
-        b"hex" => Some(Fill::Listed(place)),
+    match word {
+        b"fill" => Some(Contents::Fill),
+        b"ramp" => Some(Contents::Ramp),
+        b"hex" => Some(Contents::Hex),
         _ => None,
+    }
+}
+
+fn fill_of(contents: Contents, value: &[u8], place: u32) -> Option<Fill>
+    ensures { Reads result (λ fill. IsFill fill × IsFillAt place fill × (contents_text contents ∷ value.now ∷ [] ≡ fill_words value.now fill)) }
+{
+    match contents {
+        Contents::Fill => Some(Fill::Same(read_hex_byte(value)?)),
+        Contents::Ramp => Some(Fill::Ramp(byte(value)?)),
+        Contents::Hex => Some(Fill::Listed(place)),
     }
 }
 
@@ -105,19 +124,50 @@ fn byte(word: &[u8]) -> Option<u8>
     Some(number as u8)
 }
 
+// A word that may follow a write's contents.
+#[derive(Clone, Copy)]
+pub enum Flag {
+    Forced,
+    Reliable,
+    High,
+}
+
+fn read_flag(word: &[u8]) -> Option<Flag>
+    ensures { Reads result (λ flag. word.now ≡ flag_text flag) }
+{
+    match word {
+        b"forced" => Some(Flag::Forced),
+        b"reliable" => Some(Flag::Reliable),
+        b"high" => Some(Flag::High),
+        _ => None,
+    }
+}
+
 // The flags of a write, `forced`, `reliable` and `high` in this order, and no more.
 fn flags(mut words: Words) -> Option<(bool, bool, bool)>
-    ensures { Reads result (λ set. words.entry ≡ flag_words (codes "forced") set.0 ++ later_words set.1 set.2) }
+    ensures { Reads result (λ set. words.entry ≡ all_words set.0 set.1 set.2) }
 {
     match words.next() {
         None => Some((false, false, false)),
-        Some(b"forced") => {
+        Some(word) => flags_from(read_flag(word)?, words),
+    }
+}
+
+fn flags_from(first: Flag, words: Words) -> Option<(bool, bool, bool)>
+    ensures { Reads result (λ set. flag_text first ∷ words.entry ≡ all_words set.0 set.1 set.2) }
+{
+    match first {
+        Flag::Forced => {
             let (reliable, high) = later_flags(words)?;
             Some((true, reliable, high))
         }
-        Some(word) => {
-            let (reliable, high) = flags_from(word, words)?;
-            Some((false, reliable, high))
+        Flag::Reliable => {
+            let high = last_high(words)?;
+            Some((false, true, high))
+        }
+        Flag::High => {
+            words.end()?;
+            Some((false, false, true))
         }
     }
 }
@@ -127,23 +177,23 @@ fn later_flags(mut words: Words) -> Option<(bool, bool)>
 {
     match words.next() {
         None => Some((false, false)),
-        Some(word) => flags_from(word, words),
+        Some(word) => later_from(read_flag(word)?, words),
     }
 }
 
-fn flags_from(first: &[u8], words: Words) -> Option<(bool, bool)>
-    ensures { Reads result (λ set. first.now ∷ words.entry ≡ later_words set.0 set.1) }
+fn later_from(first: Flag, words: Words) -> Option<(bool, bool)>
+    ensures { Reads result (λ set. flag_text first ∷ words.entry ≡ later_words set.0 set.1) }
 {
     match first {
-        b"reliable" => {
+        Flag::Forced => None,
+        Flag::Reliable => {
             let high = last_high(words)?;
             Some((true, high))
         }
-        b"high" => {
+        Flag::High => {
             words.end()?;
             Some((false, true))
         }
-        _ => None,
     }
 }
 
