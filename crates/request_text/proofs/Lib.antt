@@ -1,3 +1,4 @@
+pub mod Digits
 pub mod JobTexts
 pub mod JobWords
 pub mod SettingTexts

@@ -48,6 +48,7 @@ fn next_block(rest: &[u8]) -> Option<(Block, &[u8])>
     if rest.len() < DIGITS {
         return None;
     }
-    let bytes = read_hex_bytes(&rest[..DIGITS])?;
-    Some((Block(bytes), &rest[DIGITS..]))
+    let (digits, after) = rest.split_at(DIGITS);
+    let bytes = read_hex_bytes(digits)?;
+    Some((Block(bytes), after))
 }
