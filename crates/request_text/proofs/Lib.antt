@@ -1,5 +1,7 @@
 pub mod Digits
+pub mod JobLists
 pub mod JobTexts
 pub mod JobWords
 pub mod LineTexts
+pub mod Readings
 pub mod SettingTexts

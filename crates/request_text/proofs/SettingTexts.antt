@@ -145,3 +145,7 @@ no_setting setting text after free is = no_line (setting_words setting) text aft
 pub setting_parts : (setting : Setting) (text front after : List ℕ) → text ≡ front ++ 10 ∷ after → front ≡ spaced (setting_words setting) → text ≡ setting_text setting ++ after
 unfolding setting_text
 setting_parts setting text front after parts is = line_parts (setting_words setting) text front after parts is
+
+-- a line is of one setting
+pub same_line : (text : List ℕ) (setting other : Setting) → IsSetting setting → IsSetting other → text ≡ spaced (setting_words setting) → text ≡ spaced (setting_words other) → setting ≡ other
+same_line text setting other valid sound one two = same_setting setting other valid sound (sym (words_from_line text setting valid one) ∙ words_from_line text other sound two)

@@ -2,7 +2,7 @@
 ghost use Rattle.std.specs.Prelude.{◌≡◌, ◌^◌, ◌<◌, ◌∷◌, ◌++◌, [], ℕ, List, All, IfSome, IfNone, codes, decimal};
 ghost use Rattle.storage_model.specs.declared.plan.Job.{Job};
 ghost use Rattle.text_words.specs.Reads.{Reads};
-ghost use Rattle.text_words.specs.Words.{spaced};
+ghost use Rattle.text_words.specs.Words.{spaced, words_of};
 ghost use Rattle.request_text.specs.Requests.{IsFill, IsFillAt, IsJob, IsOther, IsPlacedAt, all_words, contents_text, fill_words, flag_text, flag_words, job_words, later_words};
 
 use storage_model::{Fill, Job};
@@ -13,7 +13,7 @@ const MAX_BLOCKS: u16 = 1024;
 // The request of a line, given without its line feed, and the digits of the blocks that it lists, if it does. They will
 // stand from `place` on.
 pub fn read_job(line: &[u8], place: u32) -> Option<(Job, &[u8])>
-    ensures some { IfSome result (λ read. IsJob read.0 × IsPlacedAt place read.0 × (line.now ≡ spaced (job_words read.1.now read.0))) }
+    ensures some { IfSome result (λ read. IsJob read.0 × IsPlacedAt place read.0 × (words_of line.now ≡ job_words read.1.now read.0)) }
     ensures none { IfNone result ((job : Job) (digits : List ℕ) → IsJob job → IsPlacedAt place job → All (λ b. 32 < b) digits → ¬ (line.now ≡ spaced (job_words digits job))) }
 {
     let mut words = Words::of(line);

@@ -1,5 +1,5 @@
 use Rattle.std.proofs.Common.{◌∙◌, sym}
-use Rattle.request_text.proofs.JobTexts.{line_from_words, words_from_line}
+use Rattle.request_text.proofs.JobTexts.{words_from_line}
 use Rattle.request_text.proofs.request.read_job.Goals as goal
 
 pub returns-in_err-job-clause-none : goal.returns-in_err-job-clause-none
@@ -10,4 +10,4 @@ returns-in_err-job-clause-none c =
 pub returns-clause-some : goal.returns-clause-some
 returns-clause-some c =
     let some = c.in_ok-job.ensures.some in
-    (some.0, some.1, line_from_words c.args.line.now c.in_ok-job.job c.in_ok-job.digits.now (sym c.of-words.ensures ∙ c.in_ok-first.ensures ∙ some.2))
+    (some.0, some.1, sym c.of-words.ensures ∙ c.in_ok-first.ensures ∙ some.2)
