@@ -4,4 +4,5 @@ pub mod JobTexts
 pub mod JobWords
 pub mod LineTexts
 pub mod Readings
+pub mod SettingLists
 pub mod SettingTexts

@@ -170,10 +170,9 @@ fn read_jobs(alloc: Global, text: &[u8], settings: usize) -> Result<Requests, Te
     };
     let mut rest = text;
     while !rest.is_empty() {
+        let line = (settings + requests.jobs.len() + 1) as u32;
         let Some(after) = requests.next(rest)? else {
-            return Err(TextEnd::Bad {
-                line: (settings + requests.jobs.len()) as u32 + 1,
-            });
+            return Err(TextEnd::Bad { line });
         };
         rest = after;
     }
