@@ -1,21 +1,20 @@
 -- Requests one after the other, with the list of their blocks.
-use Rattle.std.proofs.Common.{◌≡◌, ◌≢◌, ◌⊎◌, inl, inr, ℕ, ◌+◌, ◌-◌, ◌<◌, ◌≤◌, zero, suc, List, [], ◌∷◌, ◌++◌, length, take, drop, refl, sym, ap, subst, ◌∙◌, arith, append_assoc}
-use Rattle.std.specs.Prelude.{All, flat_map, sum_by}
+use Rattle.std.proofs.Common.{◌≡◌, ℕ, ◌+◌, ◌≤◌, zero, suc, List, [], ◌∷◌, ◌++◌, length, take, drop, refl, sym, ap, subst, ◌∙◌, arith, append_assoc}
+use Rattle.std.specs.Prelude.{All, sum_by}
 use Rattle.std.proofs.Math.Seq.{take-add}
 use Rattle.std.proofs.lemmas.Grind.{flat_map-append}
 use Rattle.std.proofs.lemmas.List.{append-nil, length-append, length-drop, length-take, take-append-drop, take-append-le, drop-append-le}
-use Rattle.std.proofs.lemmas.List.Elements.{All-nil, All-cons, All-head, All-tail, All-append, All-take, All-drop}
+use Rattle.std.proofs.lemmas.List.Elements.{All-nil, All-cons, All-head, All-tail, All-take, All-drop}
 use Rattle.std.proofs.lemmas.List.Sums.{sum_by-append, sum_by-le-sum_by}
 use Rattle.storage_model.specs.declared.block.Block.{Block}
-use Rattle.storage_model.specs.declared.plan.Fill.{Fill}
 use Rattle.storage_model.specs.declared.plan.Fill.TheVariants.{Same, Ramp, Listed}
 use Rattle.storage_model.specs.declared.plan.Job.{Job}
 use Rattle.storage_model.specs.declared.plan.Job.TheVariants.{Read, Write, Flush, Barrier, Status}
-use Rattle.storage_model.specs.Plan.{IsFillListed, IsValidJob, blocks_of}
-use Rattle.text_words.specs.Words.{line, spaced}
-use Rattle.request_text.specs.Requests.{ArePlaced, IsBlock, IsFillAt, IsJob, IsPlacedAt, digits_of, job_words, listed_blocks, listed_by, listed_count, named_blocks, request_text, requests_text}
+use Rattle.storage_model.specs.Plan.{IsValidJob, blocks_of}
+use Rattle.text_words.specs.Words.{line}
+use Rattle.request_text.specs.Requests.{ArePlaced, IsBlock, IsJob, IsPlacedAt, digits_of, job_words, listed_by, named_blocks, request_text, requests_text}
 use Rattle.request_text.proofs.JobTexts.{Request, one_request, request_words-plain}
-use Rattle.request_text.proofs.LineTexts.{IsLine, line_is, line_long}
+use Rattle.request_text.proofs.LineTexts.{line_is, line_long}
 
 -- lists, taken apart
 take_all : {X : Type 0} (xs : List X) → take (length xs) xs ≡ xs
@@ -163,15 +162,15 @@ go at (job ∷ jobs) (other ∷ others) blocks also x each all listed given plac
     let request = request_of at (length blocks) job jobs blocks each listed placed refl in
     let second = request_of at (length also) other others also all given found refl in
     let begins : line (job_words (digits_of (named_blocks blocks job)) job) ++ (requests_text blocks jobs ++ x) ≡ line (job_words (digits_of (named_blocks also other)) other) ++ requests_text also others =
-      ap (λ t. t ++ (requests_text blocks jobs ++ x)) (sym (request_line job blocks)) ∙ sym (append_assoc (request_text blocks job) (requests_text blocks jobs) x) ∙ text
-      ∙ ap (λ t. t ++ requests_text also others) (request_line other also) in
+    ap (λ t. t ++ (requests_text blocks jobs ++ x)) (sym (request_line job blocks)) ∙ sym (append_assoc (request_text blocks job) (requests_text blocks jobs) x) ∙ text
+    ∙ ap (λ t. t ++ requests_text also others) (request_line other also) in
     let parts = one_request at job other (named_blocks blocks job) (named_blocks also other) (requests_text blocks jobs ++ x) (requests_text also others) request second begins in
     let head = parts.0 in
     let next : at + listed_by other ≡ at + listed_by job = ap (λ j. at + listed_by j) (sym head) in
     let taken : take (at + listed_by job) blocks ≡ take (at + listed_by job) also =
-      take_more at job blocks placed.0 ∙ ap (λ l. l ++ named_blocks blocks job) same ∙ ap (λ l. take at also ++ l) parts.1 ∙ sym (take_more at other also found.0) ∙ ap (λ n. take n also) next in
+    take_more at job blocks placed.0 ∙ ap (λ l. l ++ named_blocks blocks job) same ∙ ap (λ l. take at also ++ l) parts.1 ∙ sym (take_more at other also found.0) ∙ ap (λ n. take n also) next in
     let goes = go (at + listed_by job) jobs others blocks also x (All-tail IsJob job jobs each) (All-tail IsJob other others all) listed given placed.1
-      (subst (λ (n : ℕ). ArePlaced n others (length also)) next found.1) taken parts.2 in
+    (subst (λ (n : ℕ). ArePlaced n others (length also)) next found.1) taken parts.2 in
     record {
       more = goes.more;
       list = (let list = goes.list in cc);

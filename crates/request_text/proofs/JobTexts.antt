@@ -1,5 +1,5 @@
 -- The text of a request is a line of its words, which no other line is.
-use Rattle.std.proofs.Common.{◌≡◌, ◌≢◌, ℕ, ◌+◌, ◌*◌, ◌^◌, ◌<◌, Bool, true, false, List, [], ◌∷◌, ◌++◌, length, codes, decimal, Option, Some, None, refl, sym, ap, ◌∙◌, arith, append_assoc}
+use Rattle.std.proofs.Common.{◌≡◌, ◌≢◌, ℕ, ◌+◌, ◌*◌, Bool, true, false, List, [], ◌∷◌, ◌++◌, length, codes, decimal, refl, sym, ap, ◌∙◌, arith}
 use Rattle.std.specs.Prelude.{All, slice_index, ◌==◌}
 use Rattle.std.specs.List.{list_any}
 use Rattle.std.proofs.lemmas.Fmt.{decimal_injective}
@@ -177,7 +177,7 @@ write_parts at fill content d e f r h g s i valid sound here also same =
     let left = ap (λ w. w ++ all_words f r h) (fill_words-two fill d) in
     let right = ap (λ w. w ++ all_words g s i) (fill_words-two content e) in
     let rest = two_words-parts (contents_text (contents_of fill)) (value_of d fill) (contents_text (contents_of content)) (value_of e content)
-      (all_words f r h) (all_words g s i) (sym left ∙ same ∙ right) in
+    (all_words f r h) (all_words g s i) (sym left ∙ same ∙ right) in
     let flags = same_flags f r h g s i rest.2 in
     (same_fill at fill content d e valid sound here also (same_contents (contents_of fill) (contents_of content) rest.0) rest.1, flags.0, flags.1, flags.2)
 
@@ -191,7 +191,7 @@ same_job at (Read sector blocks high) (Read from count first) d e valid sound he
     cc
 same_job at (Write sector blocks fill forced reliable high) (Write from count content firm safe first) d e valid sound here also same =
     let parts = three_words (codes "write") (decimal sector) (decimal blocks) (codes "write") (decimal from) (decimal count)
-      (fill_words d fill ++ all_words forced reliable high) (fill_words e content ++ all_words firm safe first) same in
+    (fill_words d fill ++ all_words forced reliable high) (fill_words e content ++ all_words firm safe first) same in
     let start = decimal_injective sector from (omega (arith, valid.0.fits)) (omega (arith, sound.0.fits)) parts.0 in
     let number = decimal_injective blocks count (omega (arith, valid.0.most)) (omega (arith, sound.0.most)) parts.1 in
     let rest = write_parts at fill content d e forced reliable high firm safe first valid.1 sound.1 here also parts.2 in
@@ -237,7 +237,7 @@ same_listed (Read sector blocks high) xs ys each all long also same = no_others 
 same_listed (Write sector blocks fill forced reliable high) xs ys each all long also same =
     write_digits fill blocks xs ys (all_words forced reliable high) each all long also
     (three_words (codes "write") (decimal sector) (decimal blocks) (codes "write") (decimal sector) (decimal blocks)
-      (fill_words (digits_of xs) fill ++ all_words forced reliable high) (fill_words (digits_of ys) fill ++ all_words forced reliable high) same).2
+    (fill_words (digits_of xs) fill ++ all_words forced reliable high) (fill_words (digits_of ys) fill ++ all_words forced reliable high) same).2
 same_listed Flush xs ys each all long also same = no_others xs ys long also
 same_listed Barrier xs ys each all long also same = no_others xs ys long also
 same_listed Status xs ys each all long also same = no_others xs ys long also
@@ -264,7 +264,7 @@ pub one_request : (at : ℕ) (job other : Job) (xs ys : List Block) (a b : List 
     → line (job_words (digits_of xs) job) ++ a ≡ line (job_words (digits_of ys) other) ++ b → (job ≡ other) × (xs ≡ ys) × (a ≡ b)
 one_request at job other xs ys a b one two same =
     let parts = one_line (job_words (digits_of xs) job) (job_words (digits_of ys) other) a b (request_words-plain at job xs one) (request_words-plain at other ys two)
-      (job_words-some job (digits_of xs)) (job_words-some other (digits_of ys)) same in
+    (job_words-some job (digits_of xs)) (job_words-some other (digits_of ys)) same in
     let whole = same_request at job other xs ys one two parts.0 in
     (whole.0, whole.1, parts.1)
 
@@ -273,5 +273,5 @@ pub request_no_setting : (at : ℕ) (job : Job) (blocks : List Block) (setting :
     → line (job_words (digits_of blocks) job) ++ a ≡ setting_text setting ++ b → ⊥
 request_no_setting at job blocks setting a b request valid same =
     let parts = one_line (job_words (digits_of blocks) job) (setting_words setting) a b (request_words-plain at job blocks request) (setting_words-plain setting valid)
-      (job_words-some job (digits_of blocks)) (λ e. cc) (same ∙ ap (λ t. t ++ b) (setting_text-is setting)) in
+    (job_words-some job (digits_of blocks)) (λ e. cc) (same ∙ ap (λ t. t ++ b) (setting_text-is setting)) in
     words_apart setting job (digits_of blocks) (sym parts.0)

@@ -1,5 +1,5 @@
 -- The words of a request tell it from others.
-use Rattle.std.proofs.Common.{◌≡◌, ◌≢◌, ℕ, ◌^◌, ◌<◌, Bool, true, false, List, [], ◌∷◌, ◌++◌, length, codes, decimal, Option, Some, None, refl, sym, ap, ◌∙◌, arith}
+use Rattle.std.proofs.Common.{◌≡◌, ◌≢◌, ℕ, ◌^◌, ◌<◌, Bool, true, false, List, [], ◌∷◌, ◌++◌, codes, Option, Some, None, refl, sym, ap, ◌∙◌, arith}
 use Rattle.std.specs.Prelude.{slice_index}
 use Rattle.storage_model.specs.declared.plan.Fill.{Fill}
 use Rattle.storage_model.specs.declared.plan.Fill.TheVariants.{Same, Ramp, Listed}
@@ -11,7 +11,7 @@ use Rattle.request_text.specs.declared.request.Contents.{Contents}
 use Rattle.request_text.specs.declared.request.Contents.TheVariants.{Fill as FillContents, Ramp as RampContents, Hex as HexContents}
 use Rattle.request_text.specs.declared.request.Flag.{Flag}
 use Rattle.request_text.specs.declared.request.Flag.TheVariants.{Forced, Reliable, High}
-use Rattle.request_text.specs.Requests.{contents_text, flag_text, IsFill, IsFillAt, IsJob, IsOther, IsPlacedAt, all_words, fill_words, flag_words, job_words, later_words}
+use Rattle.request_text.specs.Requests.{contents_text, flag_text, IsFill, IsFillAt, IsJob, IsOther, IsPlacedAt, all_words, fill_words, job_words, later_words}
 
 -- a request of one word
 pub record IsAlone (first : List ℕ) (job : Job) : Type 0 where

@@ -1,9 +1,9 @@
 -- Texts that are lines: each ends with the only line feed in it.
-use Rattle.std.proofs.Common.{◌≡◌, ◌≢◌, ◌⊎◌, inl, inr, ℕ, ◌+◌, ◌<◌, ◌≤◌, Bool, true, false, cond, List, [], ◌∷◌, ◌++◌, length, codes, refl, sym, ap, subst, ◌∙◌, arith, append_assoc}
-use Rattle.std.specs.Prelude.{All, count_by, flat_map, ◌==◌, sum_by}
+use Rattle.std.proofs.Common.{◌≡◌, ◌≢◌, ◌⊎◌, inl, inr, ℕ, ◌+◌, ◌<◌, ◌≤◌, false, cond, List, [], ◌∷◌, ◌++◌, length, codes, refl, sym, ap, subst, ◌∙◌, arith, append_assoc}
+use Rattle.std.specs.Prelude.{All, flat_map, ◌==◌}
 use Rattle.std.proofs.lemmas.Bool.{ne_eqb}
 use Rattle.std.proofs.lemmas.List.{append-nil, length-append}
-use Rattle.std.proofs.lemmas.List.Elements.{All-nil, All-cons, All-head, All-tail}
+use Rattle.std.proofs.lemmas.List.Elements.{All-head, All-tail}
 use Rattle.std.proofs.lemmas.List.Sums.{sum_by-append, sum_by-cons}
 use Rattle.text_words.specs.Words.{line, spaced, words_of}
 use Rattle.text_words.proofs.Lines.{IsFree, IsWord, first_part, free_words, line_free, not_free, words_of-words}
@@ -113,25 +113,25 @@ cut P text lines (x ∷ xs) y a b all same =
     let whole : is.front ++ 10 ∷ (flat_map text xs ++ y) ≡ a ++ 10 ∷ b = sym (line_more (text x) (flat_map text xs ++ y) is) ∙ sym (append_assoc (text x) (flat_map text xs) y) ∙ same in
     elim (break_at is.front (flat_map text xs ++ y) a b is.free whole) [
       | inl here ↦ inl (record {
-          front = x ∷ [];
-          back = xs;
-          list = refl;
-          whole = ap (λ t. t ++ 10 ∷ []) here.0 ∙ sym is.whole ∙ sym (append-nil (text x));
-        })
+        front = x ∷ [];
+        back = xs;
+        list = refl;
+        whole = ap (λ t. t ++ 10 ∷ []) here.0 ∙ sym is.whole ∙ sym (append-nil (text x));
+      })
       | inr later ↦ (
           let begins : is.front ++ 10 ∷ later.0 ≡ text x ++ later.0 = sym (line_more (text x) later.0 is) in
           elim (cut P text lines xs y later.0 b (All-tail P x xs all) later.2) [
             | inl within ↦ inl (record {
-                front = x ∷ within.front;
-                back = within.back;
-                list = ap (λ l. x ∷ l) within.list;
-                whole = ap (λ t. t ++ 10 ∷ []) (later.1 ∙ begins) ∙ append_assoc (text x) later.0 (10 ∷ []) ∙ ap (λ t. text x ++ t) within.whole;
-              })
+              front = x ∷ within.front;
+              back = within.back;
+              list = ap (λ l. x ∷ l) within.list;
+              whole = ap (λ t. t ++ 10 ∷ []) (later.1 ∙ begins) ∙ append_assoc (text x) later.0 (10 ∷ []) ∙ ap (λ t. text x ++ t) within.whole;
+            })
             | inr behind ↦ inr (record {
-                more = behind.more;
-                front = later.1 ∙ begins ∙ ap (λ t. text x ++ t) behind.front ∙ sym (append_assoc (text x) (flat_map text xs) behind.more);
-                rest = behind.rest;
-              })
+              more = behind.more;
+              front = later.1 ∙ begins ∙ ap (λ t. text x ++ t) behind.front ∙ sym (append_assoc (text x) (flat_map text xs) behind.more);
+              rest = behind.rest;
+            })
           ]
           )
     ]

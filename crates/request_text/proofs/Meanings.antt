@@ -14,19 +14,19 @@ use Rattle.storage_model.specs.declared.plan.Job.{Job}
 use Rattle.storage_model.specs.declared.plan.Job.TheVariants.{Read, Write, Flush, Barrier, Status}
 use Rattle.storage_model.specs.declared.plan.Plan.{Plan}
 use Rattle.storage_model.specs.Plan.{IsValidJob, IsValidPlan, blocks_of}
-use Rattle.text_words.specs.Words.{line, spaced}
+use Rattle.text_words.specs.Words.{line}
 use Rattle.text_words.proofs.Lines.{IsFree, not_free}
 use Rattle.request_text.specs.declared.read.Lines.{Lines}
 use Rattle.request_text.specs.declared.setting.Setting.{Setting}
-use Rattle.request_text.specs.Lines.{AreLines, AreRefused, AreSet, EndsAt, Follows, IsFront, NoneFollows, NoneSet}
+use Rattle.request_text.specs.Lines.{AreLines, AreRefused, AreSet, Follows, IsFront, NoneFollows, NoneSet}
 use Rattle.request_text.specs.Meaning.{AreRequests, AreSettings, IsBadAfter, IsBadAt, IsRefused, Means, lines_in}
-use Rattle.request_text.specs.Requests.{ArePlaced, IsBlock, IsJob, IsPlacedAt, digits_of, job_words, listed_blocks, listed_by, named_blocks, request_text, requests_text}
-use Rattle.request_text.specs.Settings.{IsNew, IsSetting, kind_of, plan_of, setting_text, setting_words, settings_text}
+use Rattle.request_text.specs.Requests.{ArePlaced, IsBlock, IsJob, digits_of, job_words, listed_blocks, named_blocks, request_text, requests_text}
+use Rattle.request_text.specs.Settings.{IsSetting, plan_of, setting_text, settings_text}
 use Rattle.request_text.proofs.Digits.{digits_of-word}
-use Rattle.request_text.proofs.JobLists.{All-back, All-front, Goes, first_of, goes, request_line, request_of, valid_jobs}
+use Rattle.request_text.proofs.JobLists.{All-back, All-front, first_of, goes, request_line, request_of, valid_jobs}
 use Rattle.request_text.proofs.JobTexts.{job_words-plain, request_no_setting, request_words-plain}
-use Rattle.request_text.proofs.LineTexts.{CutBehind, CutWithin, IsLine, cut, front_line, line_is, line_long, lines_fit, lines_in-append, lines_of}
-use Rattle.request_text.proofs.SettingLists.{Longer, once_new, overlap, plan_blocks, plan_jobs, plan_numbers, settings_front}
+use Rattle.request_text.proofs.LineTexts.{IsLine, cut, front_line, line_is, line_long, lines_fit, lines_in-append, lines_of}
+use Rattle.request_text.proofs.SettingLists.{once_new, overlap, plan_blocks, plan_jobs, plan_numbers, settings_front}
 use Rattle.request_text.proofs.SettingTexts.{setting_line, setting_parts, setting_text-line}
 
 -- settings and requests make a plan
@@ -37,9 +37,9 @@ means_from bytes settings jobs blocks set within is long =
     let same_jobs : jobs ≡ plan.jobs = sym (plan_jobs settings jobs blocks) in
     let same_blocks : blocks ≡ plan.blocks = sym (plan_blocks settings jobs blocks) in
     let text : requests_text blocks jobs ≡ requests_text plan.blocks plan.jobs =
-      ap (λ (l : List Block). requests_text l jobs) same_blocks ∙ ap (λ (l : List Job). requests_text plan.blocks l) same_jobs in
+    ap (λ (l : List Block). requests_text l jobs) same_blocks ∙ ap (λ (l : List Job). requests_text plan.blocks l) same_jobs in
     let made : plan ≡ plan_of settings plan.jobs plan.blocks =
-      ap (λ (l : List Block). plan_of settings jobs l) same_blocks ∙ ap (λ (l : List Job). plan_of settings l plan.blocks) same_jobs in
+    ap (λ (l : List Block). plan_of settings jobs l) same_blocks ∙ ap (λ (l : List Job). plan_of settings l plan.blocks) same_jobs in
     record {
       settings = settings;
       text = is ∙ ap (λ t. settings_text settings ++ t) text;
@@ -86,8 +86,12 @@ request_is_line blocks each job valid =
 pub count_lines : (settings : List Setting) (jobs : List Job) (blocks : List Block) → AreSettings settings → AreRequests jobs blocks
     → lines_in (settings_text settings ++ requests_text blocks jobs) ≡ length settings + length jobs
 count_lines settings jobs blocks set within =
-    omega (arith, lines_in-append (settings_text settings) (requests_text blocks jobs), lines_of IsSetting setting_text setting_text-line settings set.each,
-      lines_of IsJob (request_text blocks) (request_is_line blocks within.listed) jobs within.each)
+    omega (
+      arith,
+      lines_in-append (settings_text settings) (requests_text blocks jobs),
+      lines_of IsSetting setting_text setting_text-line settings set.each,
+      lines_of IsJob (request_text blocks) (request_is_line blocks within.listed) jobs within.each,
+    )
 
 pub settings_fit : (text : List ℕ) (settings : List Setting) (rest : List ℕ) → AreSet text settings rest → length settings ≤ length text
 settings_fit text settings rest set =
@@ -99,7 +103,7 @@ no_setting_first : (jobs : List Job) (blocks : List Block) (x after : List ℕ) 
 no_setting_first [] blocks x after setting within valid same = (refl, same)
 no_setting_first (job ∷ jobs) blocks x after setting within valid same =
     absurd (request_no_setting 0 job (named_blocks blocks job) setting (requests_text blocks jobs ++ x) after (request_of 0 (length blocks) job jobs blocks within.each within.listed within.placed refl) valid
-      (ap (λ t. t ++ (requests_text blocks jobs ++ x)) (sym (request_line job blocks)) ∙ sym (append_assoc (request_text blocks job) (requests_text blocks jobs) x) ∙ same))
+    (ap (λ t. t ++ (requests_text blocks jobs ++ x)) (sym (request_line job blocks)) ∙ sym (append_assoc (request_text blocks job) (requests_text blocks jobs) x) ∙ same))
 
 not_empty : (next after : List ℕ) → next ++ 10 ∷ after ≡ [] → ⊥
 not_empty next after e = omega (arith, ap length e, length-append next (10 ∷ after))
@@ -114,16 +118,19 @@ one_more jobs others blocks also next within free (job ∷ more) list text place
     let listed = named_blocks also job in
     let words = job_words (digits_of listed) job in
     let begins : next ++ 10 ∷ [] ≡ line words ++ requests_text also more = text ∙ ap (λ t. t ++ requests_text also more) (request_line job also) in
-    let parts = front_line words (next ++ 10 ∷ []) (requests_text also more) next [] (request_words-plain (length blocks) job listed request) refl free begins in
-    (job, listed, record {
-      valid = request.valid;
-      placed = request.placed;
-      each = request.each;
-      long = request.long;
-      text = parts.0;
-      count = omega (arith, within.count, ap length list, length-append jobs (job ∷ more));
-      moved = omega (arith, within.moved, ap (sum_by blocks_of) list, sum_by-append blocks_of jobs (job ∷ more), sum_by-append blocks_of (job ∷ []) more);
-    })
+    let parts = front_line words (next ++ 10 ∷ []) (requests_text also more) next [] (request_words-plain (length blocks) job listed request) refl free begins in (
+      job,
+      listed,
+      record {
+        valid = request.valid;
+        placed = request.placed;
+        each = request.each;
+        long = request.long;
+        text = parts.0;
+        count = omega (arith, within.count, ap length list, length-append jobs (job ∷ more));
+        moved = omega (arith, within.moved, ap (sum_by blocks_of) list, sum_by-append blocks_of jobs (job ∷ more), sum_by-append blocks_of (job ∷ []) more);
+      },
+    )
 
 -- where neither a setting nor a request may follow, no next line has a meaning
 pub no_next : (settings : List Setting) (jobs : List Job) (blocks : List Block) (rest : List ℕ) → AreSettings settings → AreRequests jobs blocks → (jobs ≡ [] → NoneSet settings rest) → NoneFollows jobs blocks rest
@@ -131,8 +138,8 @@ pub no_next : (settings : List Setting) (jobs : List Job) (blocks : List Block) 
 no_next settings jobs blocks rest set within none_set none next after other is free means =
     let x = requests_text blocks jobs ++ (next ++ 10 ∷ []) in
     let y = requests_text other.blocks other.jobs in
-    let same : settings_text settings ++ x ≡ settings_text means.settings ++ y = 
-      sym (append_assoc (settings_text settings) (requests_text blocks jobs) (next ++ 10 ∷ [])) ∙ sym (append_assoc (settings_text settings ++ requests_text blocks jobs) next (10 ∷ [])) ∙ means.text in
+    let same : settings_text settings ++ x ≡ settings_text means.settings ++ y =
+    sym (append_assoc (settings_text settings) (requests_text blocks jobs) (next ++ 10 ∷ [])) ∙ sym (append_assoc (settings_text settings ++ requests_text blocks jobs) next (10 ∷ [])) ∙ means.text in
     elim (overlap settings means.settings x y set.each means.set.each same) [
       | inl equal ↦ (
           let found = goes jobs other.jobs blocks other.blocks (next ++ 10 ∷ []) within.each means.requests.each within.listed means.requests.listed within.placed means.requests.placed equal.1 in
@@ -232,7 +239,7 @@ front_means a b plan means =
         | inl within ↦ (
             let requests = subst (λ (l : List Job). AreRequests l blocks) within.list means.requests in
             front_jobs means.settings within.front within.back blocks (a ++ 10 ∷ []) means.set requests
-              (ap (λ t. t ++ 10 ∷ []) behind.front ∙ append_assoc (settings_text means.settings) behind.more (10 ∷ []) ∙ ap (λ t. settings_text means.settings ++ t) within.whole) long
+            (ap (λ t. t ++ 10 ∷ []) behind.front ∙ append_assoc (settings_text means.settings) behind.more (10 ∷ []) ∙ ap (λ t. settings_text means.settings ++ t) within.whole) long
             )
         | inr after ↦ absurd (not_empty after.more b (sym after.rest))
       ]
@@ -294,7 +301,7 @@ means_ended : (bytes : List ℕ) (plan : Plan) → Means bytes plan → Ended by
 means_ended bytes plan means =
     subst (λ (t : List ℕ). Ended t) (sym means.text)
     (both_ended (settings_text means.settings) (requests_text plan.blocks plan.jobs) (lines_ended IsSetting setting_text setting_text-line means.settings means.set.each)
-      (lines_ended IsJob (request_text plan.blocks) (request_is_line plan.blocks means.requests.listed) plan.jobs means.requests.each))
+    (lines_ended IsJob (request_text plan.blocks) (request_is_line plan.blocks means.requests.listed) plan.jobs means.requests.each))
 
 not_ended : (good rest front : List ℕ) → good ++ rest ≡ front ++ 10 ∷ [] → rest ≢ [] → IsFree 10 rest → ⊥
 not_ended [] rest front same some free = not_free 10 front [] (subst (λ (t : List ℕ). IsFree 10 t) same free)
@@ -325,6 +332,7 @@ first_line (b ∷ rest) =
     either : (c : Bool) → (c ≡ true) ⊎ (c ≡ false)
     either true = inl refl
     either false = inr refl
+
     is_break : (b : ℕ) → (b ≡ 10) ⊎ (b ≢ 10)
     is_break b = elim (either (b == 10)) [
       | inl holds ↦ inl (eqb-true b 10 holds)
@@ -410,7 +418,7 @@ bad_front front more number long bad =
         bad = λ next after other is free means.
             let whole : rest ++ more ≡ (next ++ 10 ∷ []) ++ after = is ∙ sym (append_assoc next (10 ∷ []) after) in
             let short : length (next ++ 10 ∷ []) ≤ length rest =
-              omega (arith, means.long, long, ap length text, length-append good rest, length-append (good ++ next) (10 ∷ []), length-append good next, length-append next (10 ∷ [])) in
+            omega (arith, means.long, long, ap length text, length-append good rest, length-append (good ++ next) (10 ∷ []), length-append good next, length-append next (10 ∷ [])) in
             let parts = shorter_front (next ++ 10 ∷ []) after rest more short whole in
             bad.2.bad next parts.0 other (parts.1 ∙ append_assoc next (10 ∷ []) parts.0) free means;
       },
@@ -420,17 +428,17 @@ bad_front front more number long bad =
 -- the line behind the last byte that a text may have is bad
 pub bad_behind : (front more : List ℕ) (plan : Plan) → length front ≡ 16777216 → more ≢ [] → Means front plan → IsBadAt (front ++ more) (lines_in front + 1)
 bad_behind front more plan long some means = (
-    front,
-    more,
-    record {
-      text = refl;
-      plan = plan;
-      means = means;
-      more = some;
-      bad = λ next after other is free longer. omega (arith, longer.long, length-append (front ++ next) (10 ∷ []), length-append front next);
-    },
-    refl,
-  )
+  front,
+  more,
+  record {
+    text = refl;
+    plan = plan;
+    means = means;
+    more = some;
+    bad = λ next after other is free longer. omega (arith, longer.long, length-append (front ++ next) (10 ∷ []), length-append front next);
+  },
+  refl,
+)
 
 -- why the front of a text is refused is why the text is
 pub refused_front : (bytes front : List ℕ) (end : TextEnd) → IsFront bytes front → IsRefused front end → IsRefused bytes end
@@ -465,6 +473,7 @@ bad_over bytes front lines count is read long counted = by_more is.more is.parts
   where
     number : lines_in front + 1 ≡ count + 1
     number = ap (λ n. n + 1) (lines_count front lines read ∙ sym counted)
+
     by_more : (more : List ℕ) → bytes ≡ front ++ more → (more ≢ [] → length front ≡ 16777216) → IsBadAt bytes (count + 1)
     by_more [] parts all = absurd (omega (arith, ap length (parts ∙ append-nil front)))
     by_more (b ∷ more) parts all =

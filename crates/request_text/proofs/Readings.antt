@@ -1,8 +1,8 @@
 -- What was read of a line, and that no other request follows.
-use Rattle.std.proofs.Common.{◌≡◌, ◌≢◌, ℕ, ◌+◌, ◌<◌, ◌≤◌, ◌^◌, Bool, true, false, List, [], ◌∷◌, ◌++◌, length, take, drop, refl, sym, ap, subst, ◌∙◌, arith, append_assoc}
+use Rattle.std.proofs.Common.{◌≡◌, ℕ, ◌+◌, ◌<◌, ◌≤◌, List, [], ◌∷◌, ◌++◌, length, take, drop, refl, sym, ap, subst, ◌∙◌, arith, append_assoc}
 use Rattle.std.specs.Prelude.{All, sum_by}
 use Rattle.std.proofs.lemmas.List.{append-nil, length-append, take-append-drop}
-use Rattle.std.proofs.lemmas.List.Elements.{All-nil, All-push, All-append}
+use Rattle.std.proofs.lemmas.List.Elements.{All-push, All-append}
 use Rattle.std.proofs.lemmas.List.Sums.{sum_by_push}
 use Rattle.storage_model.specs.declared.block.Block.{Block}
 use Rattle.storage_model.specs.declared.plan.Job.{Job}
@@ -10,7 +10,7 @@ use Rattle.storage_model.specs.Plan.{blocks_of}
 use Rattle.text_words.specs.Words.{line, spaced, words_of}
 use Rattle.text_words.proofs.Lines.{IsFree, first_part, line_free, not_free}
 use Rattle.request_text.specs.declared.read.Requests.{Requests}
-use Rattle.request_text.specs.Lines.{Follows, IsAdded, IsFront, IsSound, IsTaken, Lists, NoneFollows}
+use Rattle.request_text.specs.Lines.{Follows, IsAdded, IsFront, IsSound, Lists, NoneFollows}
 use Rattle.request_text.specs.Meaning.{AreRequests}
 use Rattle.request_text.specs.Requests.{ArePlaced, IsBlock, IsJob, IsPlacedAt, digits_of, job_words, listed_by, requests_text}
 use Rattle.request_text.proofs.Digits.{digits_of-word}
@@ -81,7 +81,7 @@ text_more old new whole text rest after sound added parts is =
     let words = job_words (digits_of more) job in
     let begins : text ++ 10 ∷ after ≡ line words ++ after = ap (λ t. t ++ 10 ∷ after) added.follows.text ∙ sym (line_break words after) in
     let same : requests_text (old.blocks ++ more) (old.jobs ++ job ∷ []) ≡ requests_text new.blocks new.jobs =
-      ap (λ (l : List Job). requests_text (old.blocks ++ more) l) (sym added.jobs) ∙ ap (λ (l : List Block). requests_text l new.jobs) (sym added.blocks) in
+    ap (λ (l : List Job). requests_text (old.blocks ++ more) l) (sym added.jobs) ∙ ap (λ (l : List Block). requests_text l new.jobs) (sym added.blocks) in
     is ∙ ap (λ t. requests_text old.blocks old.jobs ++ t) (parts ∙ begins) ∙ sym (append_assoc (requests_text old.blocks old.jobs) (line words) after)
     ∙ ap (λ t. t ++ after) (sym push ∙ same)
 

@@ -1,6 +1,6 @@
 -- Settings one after the other, and the plans that they make.
-use Rattle.std.proofs.Common.{◌≡◌, ◌≢◌, ◌⊎◌, inl, inr, ℕ, ◌+◌, ◌<◌, ◌≤◌, List, [], ◌∷◌, ◌++◌, length, Option, Some, None, refl, sym, ap, subst, ◌∙◌, arith, append_assoc}
-use Rattle.std.specs.Prelude.{All, fold, flat_map}
+use Rattle.std.proofs.Common.{◌≡◌, ◌≢◌, ◌⊎◌, inl, inr, ℕ, ◌<◌, ◌≤◌, List, [], ◌∷◌, ◌++◌, length, Option, Some, None, refl, sym, ap, ◌∙◌, arith, append_assoc}
+use Rattle.std.specs.Prelude.{All, fold}
 use Rattle.std.proofs.lemmas.Grind.{flat_map-append}
 use Rattle.std.proofs.lemmas.List.{append-nil, length-append}
 use Rattle.std.proofs.lemmas.List.Elements.{All-nil, All-cons, All-head, All-tail, All-push}
@@ -107,7 +107,7 @@ overlap (first ∷ settings) [] x y all each same = inr (inr (record {
 }))
 overlap (first ∷ settings) (other ∷ others) x y all each same =
     let parts = one_setting first other (settings_text settings ++ x) (settings_text others ++ y) (All-head IsSetting first settings all) (All-head IsSetting other others each)
-      (sym (append_assoc (setting_text first) (settings_text settings) x) ∙ same ∙ append_assoc (setting_text other) (settings_text others) y) in
+    (sym (append_assoc (setting_text first) (settings_text settings) x) ∙ same ∙ append_assoc (setting_text other) (settings_text others) y) in
     let head = parts.0 in
     elim (overlap settings others x y (All-tail IsSetting first settings all) (All-tail IsSetting other others each) parts.1) [
       | inl equal ↦ (let tail = equal.0 in inl ((cc), equal.1))

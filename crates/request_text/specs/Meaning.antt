@@ -5,7 +5,7 @@ use Rattle.storage_model.specs.declared.ends.TextEnd.{TextEnd}
 use Rattle.storage_model.specs.declared.ends.TextEnd.TheVariants.{Bad, NoMemory}
 use Rattle.storage_model.specs.declared.plan.Job.{Job}
 use Rattle.storage_model.specs.declared.plan.Plan.{Plan}
-use Rattle.storage_model.specs.Plan.{IsValidPlan, blocks_of}
+use Rattle.storage_model.specs.Plan.{blocks_of}
 use Rattle.request_text.specs.Requests.{ArePlaced, IsBlock, IsJob, requests_text}
 use Rattle.request_text.specs.Settings.{AreOnce, IsSetting, plan_of, settings_text}
 use Rattle.request_text.specs.declared.setting.Setting.{Setting}

@@ -1,4 +1,4 @@
-use Rattle.std.proofs.Common.{◌∙◌, ap, sym, drop, ◌++◌}
+use Rattle.std.proofs.Common.{◌∙◌}
 use Rattle.std.proofs.lemmas.List.{take-append-drop}
 use Rattle.request_text.proofs.Digits.{front_digits, short_digits}
 use Rattle.request_text.proofs.blocks.next_block.Goals as goal

@@ -1,4 +1,4 @@
-use Rattle.std.proofs.Common.{◌+◌, ap, arith}
+use Rattle.std.proofs.Common.{◌+◌, ap}
 use Rattle.request_text.proofs.Readings.{text_more}
 use Rattle.request_text.proofs.read.read_jobs.Goals as goal
 

@@ -1,4 +1,4 @@
-use Rattle.std.proofs.Common.{◌∙◌, sym, subst, arith, ap, List, ℕ}
+use Rattle.std.proofs.Common.{◌∙◌, sym, subst, arith, List, ℕ}
 use Rattle.storage_model.specs.declared.plan.Plan.{Plan}
 use Rattle.storage_model.specs.Plan.{IsValidPlan}
 use Rattle.request_text.specs.Meaning.{IsRefused, Means}
@@ -29,7 +29,7 @@ returns-then-text-bytes-clause-bad c =
 pub returns-then-text-bytes-clause-again : goal.returns-then-text-bytes-clause-again
 returns-then-text-bytes-clause-again c = λ plan means.
     absurd (no_bad_line c.args.bytes.now plan _ means
-      (bad_over c.args.bytes.now c.front_of-text.result.now c.in_ok-lines.lines c.count.result c.front_of-text.ensures c.in_ok-lines.ensures.lines c.if-text-bytes.true c.count.ensures))
+    (bad_over c.args.bytes.now c.front_of-text.result.now c.in_ok-lines.lines c.count.result c.front_of-text.ensures c.in_ok-lines.ensures.lines c.if-text-bytes.true c.count.ensures))
 
 pub returns-clause-means : goal.returns-clause-means
 returns-clause-means c =

@@ -1,4 +1,4 @@
-use Rattle.std.proofs.Common.{◌≡◌, codes, arith, rules}
+use Rattle.std.proofs.Common.{codes, arith, rules}
 use Rattle.storage_model.specs.declared.plan.Job.TheVariants.{Flush, Barrier, Status}
 use Rattle.std.proofs.lemmas.Slice.Eq.{text_from_reads}
 use Rattle.request_text.proofs.JobWords.{barrier_alone, flush_alone, reads_alone, status_alone}

@@ -1,5 +1,4 @@
-use Rattle.std.proofs.Common.{◌≡◌, ◌∷◌, decimal}
-use Rattle.request_text.specs.Requests.{contents_text}
+use Rattle.std.proofs.Common.{◌≡◌, ◌∷◌}
 use Rattle.request_text.proofs.JobWords.{no_contents, no_write}
 use Rattle.request_text.proofs.request.write_of.Goals as goal
 

@@ -1,4 +1,4 @@
-use Rattle.std.proofs.Common.{◌≡◌, ◌+◌, ◌<◌, ◌≤◌, ◌∙◌, ap, sym, arith, length}
+use Rattle.std.proofs.Common.{◌≡◌, ◌+◌, ◌<◌, ◌≤◌, ap, arith, length}
 use Rattle.std.specs.Prelude.{sum_by}
 use Rattle.storage_model.specs.Plan.{blocks_of}
 use Rattle.request_text.proofs.Readings.{blocks_fit, lists_read, no_request, one_read, read_follows}
