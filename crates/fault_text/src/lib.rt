@@ -1,13 +1,17 @@
-// A library with one function.
+//! Fault texts: which bus commands and array calls fail and how, before which commands the power is cut, what the polls
+//! find ready, and who acts next. Every text is lines that each end with a line feed, and each line has exactly one
+//! spelling.
 #![tactic(auto)]
 
-ghost use Rattle.std.specs.Prelude.{◌≡◌};
-ghost use Rattle.fault_text.specs.Echo.{echo_of};
+mod fields;
+mod keyword;
+mod line;
+mod numbers;
+mod read;
+mod tally;
 
-// The `ensures` clause is the contract: what `echo` returns is `echo_of` of its argument, a definition
-// in `specs/Echo.antt`, which a caller's clause can cite too.
-pub fn echo(x: usize) -> usize
-    ensures { result ≡ echo_of x }
-{
-    x
-}
+pub use line::FaultLine;
+pub use read::read_faults;
+
+#[cfg(test)]
+mod tests;

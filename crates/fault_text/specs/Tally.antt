@@ -1,0 +1,28 @@
+-- What a reader of faults has taken: how many lines and letters, and the least number that the next line of a kind may have.
+use Rattle.std.specs.Prelude.{ℕ, ◌+◌, ◌<◌, ◌≤◌, length}
+use Rattle.fault_text.specs.declared.line.FaultLine.{FaultLine}
+use Rattle.fault_text.specs.declared.line.FaultLine.TheVariants.{Ready, Bus, Program, Fetch, Cut, Turn}
+use Rattle.fault_text.specs.declared.tally.Tally.{Tally}
+
+-- within the limits on lines and letters
+pub record IsWithin (tally : Tally) : Type 0 where
+  pub lines : tally.lines ≤ 4096
+  pub letters : tally.letters ≤ 65536
+
+-- the number of a line isn't too low, and its letters not too many
+abbrev pub Follows : Tally → FaultLine → Type 0
+Follows tally (Bus n kind) = tally.bus ≤ n
+Follows tally (Program n cut mask) = tally.programs ≤ n
+Follows tally (Fetch n) = tally.fetches ≤ n
+Follows tally (Cut n) = tally.cuts ≤ n
+Follows tally (Turn letters) = tally.letters + length letters ≤ 65536
+Follows tally (Ready mask) = Unit {0}
+
+-- what is taken with one line more
+abbrev pub with_line : Tally → FaultLine → Tally
+with_line tally (Bus n kind) = record tally { lines = tally.lines + 1; bus = n + 1 }
+with_line tally (Program n cut mask) = record tally { lines = tally.lines + 1; programs = n + 1 }
+with_line tally (Fetch n) = record tally { lines = tally.lines + 1; fetches = n + 1 }
+with_line tally (Cut n) = record tally { lines = tally.lines + 1; cuts = n + 1 }
+with_line tally (Turn letters) = record tally { lines = tally.lines + 1; letters = tally.letters + length letters }
+with_line tally (Ready mask) = record tally { lines = tally.lines + 1 }
