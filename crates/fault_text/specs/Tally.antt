@@ -1,5 +1,7 @@
 -- What a reader of faults has taken: how many lines and letters, and the least number that the next line of a kind may have.
-use Rattle.std.specs.Prelude.{ℕ, ◌+◌, ◌<◌, ◌≤◌, length}
+use Rattle.std.specs.Prelude.{◌≡◌, ℕ, List, ◌+◌, ◌<◌, ◌≤◌, length}
+use Rattle.text_words.specs.Words.{spaced}
+use Rattle.fault_text.specs.Lines.{IsLine, line_words}
 use Rattle.fault_text.specs.declared.line.FaultLine.{FaultLine}
 use Rattle.fault_text.specs.declared.line.FaultLine.TheVariants.{Ready, Bus, Program, Fetch, Cut, Turn}
 use Rattle.fault_text.specs.declared.tally.Tally.{Tally}
@@ -26,3 +28,10 @@ with_line tally (Fetch n) = record tally { lines = tally.lines + 1; fetches = n 
 with_line tally (Cut n) = record tally { lines = tally.lines + 1; cuts = n + 1 }
 with_line tally (Turn letters) = record tally { lines = tally.lines + 1; letters = tally.letters + length letters }
 with_line tally (Ready mask) = record tally { lines = tally.lines + 1 }
+
+-- a text is the line, which can follow
+pub record IsNext (text : List ℕ) (tally : Tally) (line : FaultLine) : Type 0 where
+  pub valid : IsLine line
+  pub is : text ≡ spaced (line_words line)
+  pub room : tally.lines < 4096
+  pub follows : Follows tally line

@@ -1,5 +1,5 @@
 // What stands in a line after the word that names it.
-ghost use Rattle.std.specs.Prelude.{◌≡◌, ◌≢◌, ◌∷◌, [], ◌^◌, ◌<◌, ◌≤◌, IfOk, codes, decimal, map};
+ghost use Rattle.std.specs.Prelude.{◌≡◌, ◌≢◌, ℕ, List, ◌∷◌, [], ◌^◌, ◌<◌, ◌≤◌, IfOk, MatchOption, codes, decimal, map};
 ghost use Rattle.text_words.specs.Reads.{Reads};
 ghost use Rattle.fault_text.specs.Lines.{IsKind, fault_word, hex_number, kind_words, letter_byte};
 
@@ -132,7 +132,7 @@ pub fn last_letters(alloc: Global, mut words: Words) -> Result<Option<LetterList
 }
 
 fn last_word(mut words: Words) -> Option<&[u8]>
-    ensures { Reads result (λ word. words.entry ≡ word.now ∷ []) }
+    ensures { MatchOption result ((word : List ℕ) → ¬ (words.entry ≡ word ∷ [])) (λ word. words.entry ≡ word.now ∷ []) }
 {
     let word = words.next()?;
     words.end()?;

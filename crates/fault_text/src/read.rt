@@ -1,12 +1,10 @@
 // Fault texts.
-ghost use Rattle.std.specs.Prelude.{◌≡◌, ◌≤◌, [], IfOk, IfErr, IfNone, IfSome, OnOk};
+ghost use Rattle.std.specs.Prelude.{◌≡◌, ◌++◌, [], IfOk, IfErr, IfNone, IfSome, OnOk};
 ghost use Rattle.storage_model.specs.declared.faults.Faults.{Faults};
 ghost use Rattle.storage_model.specs.declared.ends.TextEnd.TheVariants.{NoMemory as OutOfMemory};
-ghost use Rattle.text_words.specs.Reads.{Reads};
-ghost use Rattle.text_words.specs.Words.{spaced};
-ghost use Rattle.fault_text.specs.Faults.{AreValid, IsRefused, Means, faults_of};
-ghost use Rattle.fault_text.specs.Lines.{IsLine, line_words};
-ghost use Rattle.fault_text.specs.Tally.{Follows, IsWithin, with_line};
+ghost use Rattle.fault_text.specs.declared.line.FaultLine.{FaultLine};
+ghost use Rattle.fault_text.specs.Faults.{AreValid, IsRefused, Means, faults_of, with_faults};
+ghost use Rattle.fault_text.specs.Tally.{IsNext, IsWithin, with_line};
 
 use crate::line::{FaultLine, read_line};
 use crate::tally::Tally;
@@ -66,6 +64,7 @@ fn next_line(
     tally: Tally,
 ) -> Result<Option<(FaultLine, Tally)>, NoMemory>
     requires { IsWithin tally }
+    ensures { IfOk result (λ read. IfSome read (λ next. IsNext text.now tally next.0 × (next.1 ≡ with_line tally next.0)) × IfNone read ((line : FaultLine) → ¬ IsNext text.now tally line)) }
 {
     let Some(line) = read_line(alloc, text)? else {
         return Ok(None);
@@ -77,7 +76,9 @@ fn next_line(
 }
 
 // Adds what a line says to the faults so far.
-fn add(faults: &mut Faults, line: FaultLine) -> Result<(), NoMemory> {
+fn add(faults: &mut Faults, line: FaultLine) -> Result<(), NoMemory>
+    ensures { OnOk result (faults.new ≡ with_faults faults.old line) }
+{
     match line {
         FaultLine::Ready { mask } => faults.ready.push(mask),
         FaultLine::Bus { n, kind } => faults.bus.push(Hit { n, kind }),
@@ -98,7 +99,9 @@ fn add(faults: &mut Faults, line: FaultLine) -> Result<(), NoMemory> {
     }
 }
 
-fn push_all(list: &mut LetterList, letters: &LetterList) -> Result<(), NoMemory> {
+fn push_all(list: &mut LetterList, letters: &LetterList) -> Result<(), NoMemory>
+    ensures { OnOk result (list.new ≡ list.old ++ letters.now) }
+{
     for letter in letters.as_slice() {
         list.push(*letter)?;
     }

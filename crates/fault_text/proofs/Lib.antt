@@ -1,0 +1,3 @@
+pub mod HexNumbers
+pub mod Letters
+pub mod LineWords
