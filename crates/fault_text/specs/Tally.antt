@@ -6,6 +6,10 @@ use Rattle.fault_text.specs.declared.line.FaultLine.{FaultLine}
 use Rattle.fault_text.specs.declared.line.FaultLine.TheVariants.{Ready, Bus, Program, Fetch, Cut, Turn}
 use Rattle.fault_text.specs.declared.tally.Tally.{Tally}
 
+-- what is taken at first
+abbrev pub nothing_taken : Tally
+nothing_taken = record { lines = 0; letters = 0; bus = 0; programs = 0; fetches = 0; cuts = 0 }
+
 -- within the limits on lines and letters
 pub record IsWithin (tally : Tally) : Type 0 where
   pub lines : tally.lines ≤ 4096

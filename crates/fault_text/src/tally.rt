@@ -1,6 +1,6 @@
 // What has been taken of a text.
 ghost use Rattle.std.specs.Prelude.{◌≡◌, ◌+◌, ◌<◌, ◌≤◌, IfNone, IfSome};
-ghost use Rattle.fault_text.specs.Tally.{Follows, IsWithin, with_line};
+ghost use Rattle.fault_text.specs.Tally.{Follows, IsWithin, nothing_taken, with_line};
 
 use crate::line::FaultLine;
 
@@ -20,7 +20,9 @@ pub struct Tally {
 }
 
 impl Tally {
-    pub fn new() -> Self {
+    pub fn new() -> Self
+        ensures { result ≡ nothing_taken }
+    {
         Tally {
             lines: 0,
             letters: 0,
