@@ -68,10 +68,10 @@ splits (digit ∷ next ∷ digits) some =
           })
           )
       | inr other ↦ rw (other_stays digit (next ∷ digits) other) (record {
-          numeral = record { some = omega arith; lead = λ more. other };
-          short = omega arith;
-          zeros = (let none : length (digit ∷ next ∷ digits) - length (digit ∷ next ∷ digits) ≡ 0 = omega arith in rw none refl);
-        })
+        numeral = record { some = omega arith; lead = λ more. other };
+        short = omega arith;
+        zeros = (let none : length (digit ∷ next ∷ digits) - length (digit ∷ next ∷ digits) ≡ 0 = omega arith in rw none refl);
+      })
     ]
 
 -- a numeral stays

@@ -8,9 +8,9 @@ use Rattle.storage_model.specs.declared.faults.Faults.{Faults}
 use Rattle.text_words.proofs.Lines.{IsFree}
 use Rattle.fault_text.specs.declared.line.FaultLine.{FaultLine}
 use Rattle.fault_text.specs.declared.tally.Tally.{Tally}
-use Rattle.fault_text.specs.Faults.{AreWithin, IsBadAfter, IsBadAt, Means, faults_of, letters_of, texts, with_faults}
+use Rattle.fault_text.specs.Faults.{AreWithin, IsBadAfter, IsBadAt, Means, faults_of, letters_of, texts}
 use Rattle.fault_text.specs.Lines.{IsLine, line_text}
-use Rattle.fault_text.specs.Tally.{Follows, IsNext, with_line}
+use Rattle.fault_text.specs.Tally.{Follows, IsNext, with_faults, with_line}
 use Rattle.fault_text.proofs.Counts.{All-back, faults-push, follows_within, room_within, tally-push, tally_of, within-push, within_front, within_none}
 use Rattle.fault_text.proofs.Lengths.{line_text-short, texts-short}
 use Rattle.fault_text.proofs.LineWords.{fault_line, fault_parts, line_text-long, one_line}
@@ -162,7 +162,7 @@ taken_more bytes rest text after faults tally line taken parts next =
     record {
       lines = taken.lines ++ line ∷ [];
       text = taken.text ∙ ap (λ t. texts taken.lines ++ t) (fault_parts line rest text after parts next.is) ∙ sym (append_assoc (texts taken.lines) (line_text line) after)
-      ∙ ap (λ t. t ++ after) (sym (texts-push taken.lines line));
+          ∙ ap (λ t. t ++ after) (sym (texts-push taken.lines line));
       within = within-push taken.lines line taken.within next.valid room follows;
       meant = ap (λ f. with_faults f line) taken.meant ∙ sym (faults-push taken.lines line);
       counted = ap (λ t. with_line t line) taken.counted ∙ sym (tally-push taken.lines line follows);

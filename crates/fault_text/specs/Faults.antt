@@ -42,15 +42,6 @@ faults_of lines = record {
   turns = flat_map letters_of lines;
 }
 
--- faults, and those of one line more
-abbrev pub with_faults : Faults → FaultLine → Faults
-with_faults faults (Ready mask) = record faults { ready = faults.ready ++ mask ∷ [] }
-with_faults faults (Bus n kind) = record faults { bus = faults.bus ++ record { n = n; kind = kind } ∷ [] }
-with_faults faults (Program n cut mask) = record faults { array = faults.array ++ record { fetch = false; n = n; cut = cut; mask = mask } ∷ [] }
-with_faults faults (Fetch n) = record faults { array = faults.array ++ record { fetch = true; n = n; cut = false; mask = 0 } ∷ [] }
-with_faults faults (Cut n) = record faults { cuts = faults.cuts ++ n ∷ [] }
-with_faults faults (Turn letters) = record faults { turns = faults.turns ++ letters }
-
 -- the number of a line of a kind: of the command, of the program or of the fetch
 abbrev pub bus_number : FaultLine → List ℕ
 bus_number (Bus n kind) = n ∷ []

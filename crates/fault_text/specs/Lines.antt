@@ -1,5 +1,5 @@
 -- The lines of a fault text. The grammar is said by writing: each line has exactly one text.
-use Rattle.std.specs.Prelude.{◌≡◌, ◌≢◌, ℕ, ◌^◌, ◌<◌, ◌≤◌, ◌==◌, Bool, true, false, if◌then◌else◌, List, [], ◌∷◌, map, codes, decimal}
+use Rattle.std.specs.Prelude.{ℕ, ◌^◌, ◌<◌, ◌≤◌, ◌==◌, Bool, true, false, if◌then◌else◌, List, [], ◌∷◌, length, map, codes, decimal}
 use Rattle.text_words.specs.Words.{line, hex_word}
 use Rattle.storage_model.specs.declared.faults.BusKind.{BusKind}
 use Rattle.storage_model.specs.declared.faults.BusKind.TheVariants.{Lost, NoResp, Bad, Late}
@@ -66,11 +66,11 @@ abbrev pub IsKind : BusKind → Type 0
 IsKind (Bad block) = (1 ≤ block) × (block ≤ 1024)
 IsKind _ = Unit {0}
 
--- the numbers of a line are within their limits, and a line of letters has one
+-- the numbers of a line are within their limits, and a line of letters has from 1 to 65,536
 abbrev pub IsLine : FaultLine → Type 0
 IsLine (Ready mask) = mask < 2 ^ 32
 IsLine (Bus n kind) = (1 ≤ n) × (n ≤ 4294967294) × IsKind kind
 IsLine (Program n cut mask) = (1 ≤ n) × (n < 2 ^ 32) × (mask < 2 ^ 8)
 IsLine (Fetch n) = (1 ≤ n) × (n < 2 ^ 32)
 IsLine (Cut n) = n < 2 ^ 32
-IsLine (Turn letters) = letters ≢ []
+IsLine (Turn letters) = (1 ≤ length letters) × (length letters ≤ 65536)

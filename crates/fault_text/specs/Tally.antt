@@ -1,5 +1,6 @@
 -- What a reader of faults has taken: how many lines and letters, and the least number that the next line of a kind may have.
-use Rattle.std.specs.Prelude.{◌≡◌, ℕ, List, ◌+◌, ◌<◌, ◌≤◌, length}
+use Rattle.std.specs.Prelude.{◌≡◌, ℕ, true, false, List, [], ◌∷◌, ◌++◌, ◌+◌, ◌<◌, ◌≤◌, length}
+use Rattle.storage_model.specs.declared.faults.Faults.{Faults}
 use Rattle.text_words.specs.Words.{spaced}
 use Rattle.fault_text.specs.Lines.{IsLine, line_words}
 use Rattle.fault_text.specs.declared.line.FaultLine.{FaultLine}
@@ -32,6 +33,15 @@ with_line tally (Fetch n) = record tally { lines = tally.lines + 1; fetches = n 
 with_line tally (Cut n) = record tally { lines = tally.lines + 1; cuts = n + 1 }
 with_line tally (Turn letters) = record tally { lines = tally.lines + 1; letters = tally.letters + length letters }
 with_line tally (Ready mask) = record tally { lines = tally.lines + 1 }
+
+-- faults, and those of one line more
+abbrev pub with_faults : Faults → FaultLine → Faults
+with_faults faults (Ready mask) = record faults { ready = faults.ready ++ mask ∷ [] }
+with_faults faults (Bus n kind) = record faults { bus = faults.bus ++ record { n = n; kind = kind } ∷ [] }
+with_faults faults (Program n cut mask) = record faults { array = faults.array ++ record { fetch = false; n = n; cut = cut; mask = mask } ∷ [] }
+with_faults faults (Fetch n) = record faults { array = faults.array ++ record { fetch = true; n = n; cut = false; mask = 0 } ∷ [] }
+with_faults faults (Cut n) = record faults { cuts = faults.cuts ++ n ∷ [] }
+with_faults faults (Turn letters) = record faults { turns = faults.turns ++ letters }
 
 -- a text is the line, which can follow
 pub record IsNext (text : List ℕ) (tally : Tally) (line : FaultLine) : Type 0 where

@@ -1,5 +1,5 @@
 // What stands in a line after the word that names it.
-ghost use Rattle.std.specs.Prelude.{◌≡◌, ◌≢◌, ℕ, List, ◌∷◌, [], ◌^◌, ◌<◌, ◌≤◌, IfOk, MatchOption, codes, decimal, map};
+ghost use Rattle.std.specs.Prelude.{◌≡◌, ℕ, List, ◌∷◌, [], ◌^◌, ◌<◌, ◌≤◌, IfOk, MatchOption, codes, decimal, length, map};
 ghost use Rattle.text_words.specs.Reads.{Reads};
 ghost use Rattle.fault_text.specs.Lines.{IsKind, fault_word, hex_number, kind_words, letter_byte};
 
@@ -11,6 +11,8 @@ use text_words::{Words, read_decimal, read_decimal_in};
 const LAST_COMMAND: u32 = 4_294_967_294;
 
 const MAX_BLOCKS: u16 = 1024;
+
+const MAX_LETTERS: usize = 65_536;
 
 /// A mask, and no more.
 pub fn last_hex(mut words: Words) -> Option<u32>
@@ -123,7 +125,7 @@ pub fn fetch_fields(mut words: Words) -> Option<u32>
 
 /// A word of letters, and no more.
 pub fn last_letters(alloc: Global, mut words: Words) -> Result<Option<LetterList>, NoMemory>
-    ensures { IfOk result (λ read. Reads read (λ letters. (letters ≢ []) × (words.entry ≡ map letter_byte letters ∷ []))) }
+    ensures { IfOk result (λ read. Reads read (λ letters. (1 ≤ length letters) × (length letters ≤ 65536) × (words.entry ≡ map letter_byte letters ∷ []))) }
 {
     match last_word(words) {
         Some(word) => letters_of(alloc, word),
@@ -140,9 +142,9 @@ fn last_word(mut words: Words) -> Option<&[u8]>
 }
 
 fn letters_of(alloc: Global, word: &[u8]) -> Result<Option<LetterList>, NoMemory>
-    ensures { IfOk result (λ read. Reads read (λ letters. (letters ≢ []) × (word.now ≡ map letter_byte letters))) }
+    ensures { IfOk result (λ read. Reads read (λ letters. (1 ≤ length letters) × (length letters ≤ 65536) × (word.now ≡ map letter_byte letters))) }
 {
-    if word.is_empty() {
+    if word.is_empty() || word.len() > MAX_LETTERS {
         return Ok(None);
     }
     let mut letters = LetterList::new(alloc);

@@ -4,7 +4,9 @@ ghost use Rattle.text_words.specs.Reads.{Reads};
 ghost use Rattle.text_words.specs.Words.{spaced};
 ghost use Rattle.fault_text.specs.Lines.{IsLine, keyword_text, line_words};
 
-use crate::fields::{bus_fields, fetch_fields, last_hex, last_letters, last_number, program_fields};
+use crate::fields::{
+    bus_fields, fetch_fields, last_hex, last_letters, last_number, program_fields,
+};
 use crate::keyword::{Keyword, read_keyword};
 use std::alloc::Global;
 use storage_model::{BusKind, LetterList, NoMemory};

@@ -1,10 +1,10 @@
 // Fault texts.
-ghost use Rattle.std.specs.Prelude.{◌≡◌, ◌++◌, [], IfOk, IfErr, IfNone, IfSome, OnOk};
+ghost use Rattle.std.specs.Prelude.{◌≡◌, ◌≤◌, ◌++◌, [], length, IfOk, IfErr, IfNone, IfSome, OnOk};
 ghost use Rattle.storage_model.specs.declared.faults.Faults.{Faults};
 ghost use Rattle.storage_model.specs.declared.ends.TextEnd.TheVariants.{NoMemory as OutOfMemory};
 ghost use Rattle.fault_text.specs.declared.line.FaultLine.{FaultLine};
-ghost use Rattle.fault_text.specs.Faults.{AreValid, IsRefused, Means, faults_of, with_faults};
-ghost use Rattle.fault_text.specs.Tally.{IsNext, IsWithin, with_line};
+ghost use Rattle.fault_text.specs.Faults.{AreValid, IsRefused, Means, faults_of};
+ghost use Rattle.fault_text.specs.Tally.{IsNext, IsWithin, with_faults, with_line};
 
 use crate::line::{FaultLine, read_line};
 use crate::tally::Tally;
@@ -20,6 +20,7 @@ use text_words::split_once;
 pub fn read_faults(alloc: Global, bytes: &[u8]) -> Result<Faults, TextEnd>
     ensures means { IfOk result (Means bytes.now) }
     ensures valid { IfOk result AreValid }
+    ensures short { IfOk result (λ read. length bytes.now ≤ 16777216) }
     ensures bad { IfErr result (IsRefused bytes.now) }
 
     // The text that faults have is read as these faults.

@@ -139,3 +139,30 @@ fn the_first_bad_line_is_given(rt: HostRuntime) -> Result<(), Fail> {
     assert!(rt; read_faults(alloc, b"cut 5\nbus 4 lost\nfetch 3 fail\nprogram 2 cut 0\n").is_ok());
     Ok(())
 }
+
+#[test]
+fn lines_and_letters_have_limits(rt: HostRuntime) -> Result<(), Fail> {
+    let alloc = rt.alloc();
+    let mut text = Vec::new(alloc);
+    for _ in 0..4096u32 {
+        text.extend_from_slice(b"cut 0\n")?;
+    }
+    assert_eq!(rt; bad_line(alloc, &text), Some(2));
+    let mut text = Vec::new(alloc);
+    for _ in 0..4096u32 {
+        text.extend_from_slice(b"turn hecxhecxhecxhecx\n")?;
+    }
+    assert_eq!(rt; read_faults(alloc, &text)?.turns.len(), 65_536);
+    text.extend_from_slice(b"ready 0\n")?;
+    assert_eq!(rt; bad_line(alloc, &text), Some(4097));
+    let mut text = Vec::new(alloc);
+    text.extend_from_slice(b"ready 0\nturn ")?;
+    for _ in 0..65_536u32 {
+        text.push(b'h')?;
+    }
+    text.extend_from_slice(b"\n")?;
+    assert_eq!(rt; read_faults(alloc, &text)?.turns.len(), 65_536);
+    text.extend_from_slice(b"turn h\n")?;
+    assert_eq!(rt; bad_line(alloc, &text), Some(3));
+    Ok(())
+}

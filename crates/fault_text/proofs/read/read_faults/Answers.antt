@@ -4,7 +4,7 @@ use Rattle.std.proofs.lemmas.List.{length-append}
 use Rattle.storage_model.specs.declared.faults.Faults.{Faults}
 use Rattle.fault_text.specs.Faults.{IsBadAt}
 use Rattle.fault_text.proofs.LineWords.{no_fault}
-use Rattle.fault_text.proofs.Meanings.{all_read, bad_here, no_bad_line, one_meaning, none_next, taken_more, taken_none}
+use Rattle.fault_text.proofs.Meanings.{all_read, bad_here, meaning_fits, no_bad_line, one_meaning, none_next, taken_more, taken_none}
 use Rattle.fault_text.proofs.Valid.{meaning_valid}
 use Rattle.fault_text.proofs.read.read_faults.Goals as goal
 
@@ -45,6 +45,11 @@ pub returns-clause-valid : goal.returns-clause-valid
 returns-clause-valid c =
     let none = eqb-true (length c.loop-rest.rest.now) 0 (sym c.is_empty.ensures ∙ c.loop-rest-test.false) in
     meaning_valid c.args.bytes.now c.loop-rest.faults (all_read c.args.bytes.now c.loop-rest.rest.now c.loop-rest.faults c.loop-rest.tally c.loop-rest.invariant none)
+
+pub returns-clause-short : goal.returns-clause-short
+returns-clause-short c =
+    let none = eqb-true (length c.loop-rest.rest.now) 0 (sym c.is_empty.ensures ∙ c.loop-rest-test.false) in
+    meaning_fits c.args.bytes.now c.loop-rest.faults (all_read c.args.bytes.now c.loop-rest.rest.now c.loop-rest.faults c.loop-rest.tally c.loop-rest.invariant none)
 
 pub returns-clause-again : goal.returns-clause-again
 returns-clause-again c = λ faults means.
