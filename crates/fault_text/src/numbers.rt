@@ -1,5 +1,5 @@
 // Numbers in limits, and hexadecimal numbers.
-ghost use Rattle.std.specs.Prelude.{◌≡◌, ◌^◌, ◌-◌, ◌<◌, ◌≤◌, ◌++◌, decimal, length, replicate};
+ghost use Rattle.std.specs.Prelude.{◌≡◌, ◌^◌, ◌-◌, ◌<◌, ◌≤◌, ◌++◌, ◌↔◌, IsTrue, decimal, length, replicate, slice_index};
 ghost use Rattle.text_words.specs.Reads.{Reads};
 ghost use Rattle.fault_text.specs.Lines.{hex_number};
 
@@ -23,7 +23,7 @@ pub fn read_hex(word: &[u8]) -> Option<u32>
     if word.is_empty() || word.len() > 8 {
         return None;
     }
-    if word.len() > 1 && word[0] == b'0' {
+    if has_leading_zero(word) {
         return None;
     }
     read_hex_word(&padded(word))
@@ -38,6 +38,13 @@ pub fn read_mask(word: &[u8]) -> Option<u8>
         return None;
     }
     Some(number as u8)
+}
+
+// Whether a zero stands before other digits.
+fn has_leading_zero(word: &[u8]) -> bool
+    ensures { IsTrue result ↔ ((1 < length word.now) × (slice_index word.now 0 ≡ 48)) }
+{
+    word.len() > 1 && word[0] == b'0'
 }
 
 // Eight digits, with zeros in front.
