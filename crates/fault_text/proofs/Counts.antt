@@ -1,12 +1,9 @@
 -- The counts of lines, and of one line more.
-use Rattle.std.proofs.Common.{◌≡◌, ℕ, ◌+◌, ◌<◌, ◌≤◌, List, [], ◌∷◌, ◌++◌, length, refl, sym, ap, ◌∙◌, subst, arith}
+use Rattle.std.proofs.Common.{◌≡◌, ℕ, ◌+◌, ◌<◌, List, [], ◌∷◌, ◌++◌, length, refl, ap, ◌∙◌, subst, arith}
 use Rattle.std.specs.Prelude.{All, flat_map}
 use Rattle.std.proofs.lemmas.Grind.{flat_map-append}
 use Rattle.std.proofs.lemmas.List.{append-nil, length-append}
 use Rattle.std.proofs.lemmas.List.Elements.{All-nil, All-cons, All-head, All-tail, All-push}
-use Rattle.storage_model.specs.declared.faults.BusKind.{BusKind}
-use Rattle.storage_model.specs.declared.faults.Faults.{Faults}
-use Rattle.storage_model.specs.declared.faults.Letter.{Letter}
 use Rattle.fault_text.specs.declared.line.FaultLine.{FaultLine}
 use Rattle.fault_text.specs.declared.line.FaultLine.TheVariants.{Ready, Bus, Program, Fetch, Cut, Turn}
 use Rattle.fault_text.specs.declared.tally.Tally.{Tally}

@@ -1,17 +1,14 @@
 -- A line's text is short but for its letters.
-use Rattle.std.proofs.Common.{◌≡◌, ℕ, ◌+◌, ◌*◌, ◌^◌, ◌<◌, ◌≤◌, Bool, true, false, List, [], ◌∷◌, ◌++◌, length, map, codes, decimal, arith}
+use Rattle.std.proofs.Common.{ℕ, ◌+◌, ◌*◌, ◌^◌, ◌<◌, ◌≤◌, Bool, true, false, List, [], ◌∷◌, length, decimal, arith}
 use Rattle.std.specs.Prelude.{All, flat_map}
 use Rattle.std.proofs.lemmas.Fmt.{length-decimal-le}
 use Rattle.std.proofs.lemmas.List.{length-append, length-map}
 use Rattle.std.proofs.lemmas.List.Elements.{All-head, All-tail}
-use Rattle.storage_model.specs.declared.faults.BusKind.{BusKind}
 use Rattle.storage_model.specs.declared.faults.BusKind.TheVariants.{Lost, NoResp, Bad, Late}
-use Rattle.storage_model.specs.declared.faults.Letter.{Letter}
-use Rattle.text_words.specs.Words.{spaced}
 use Rattle.fault_text.specs.declared.line.FaultLine.{FaultLine}
 use Rattle.fault_text.specs.declared.line.FaultLine.TheVariants.{Ready, Bus, Program, Fetch, Cut, Turn}
 use Rattle.fault_text.specs.Faults.{letters_of, texts}
-use Rattle.fault_text.specs.Lines.{IsKind, IsLine, fault_word, hex_number, kind_words, letter_byte, line_text}
+use Rattle.fault_text.specs.Lines.{IsLine, fault_word, letter_byte, line_text}
 use Rattle.fault_text.proofs.HexNumbers.{number_short}
 
 decimal_short : (n : ℕ) → n < 2 ^ 32 → length (decimal n) ≤ 10

@@ -1,6 +1,6 @@
 -- A fault text has one meaning or one first bad line.
-use Rattle.std.proofs.Common.{◌≡◌, ◌≢◌, ◌⊎◌, inl, inr, ℕ, ◌+◌, ◌*◌, ◌<◌, ◌≤◌, List, [], ◌∷◌, ◌++◌, length, refl, sym, ap, ◌∙◌, subst, arith, append_assoc}
-use Rattle.std.specs.Prelude.{All, flat_map}
+use Rattle.std.proofs.Common.{◌≡◌, ◌≢◌, ◌⊎◌, inl, inr, ℕ, ◌+◌, ◌<◌, ◌≤◌, List, [], ◌∷◌, ◌++◌, length, refl, sym, ap, ◌∙◌, subst, arith, append_assoc}
+use Rattle.std.specs.Prelude.{All}
 use Rattle.std.proofs.lemmas.Grind.{flat_map-append}
 use Rattle.std.proofs.lemmas.List.{append-nil, length-append}
 use Rattle.std.proofs.lemmas.List.Elements.{All-head, All-tail}
@@ -8,11 +8,11 @@ use Rattle.storage_model.specs.declared.faults.Faults.{Faults}
 use Rattle.text_words.proofs.Lines.{IsFree}
 use Rattle.fault_text.specs.declared.line.FaultLine.{FaultLine}
 use Rattle.fault_text.specs.declared.tally.Tally.{Tally}
-use Rattle.fault_text.specs.Faults.{AreWithin, IsBadAfter, IsBadAt, Means, faults_of, letters_of, texts}
+use Rattle.fault_text.specs.Faults.{AreWithin, IsBadAfter, IsBadAt, Means, faults_of, texts}
 use Rattle.fault_text.specs.Lines.{IsLine, line_text}
 use Rattle.fault_text.specs.Tally.{Follows, IsNext, with_faults, with_line}
 use Rattle.fault_text.proofs.Counts.{All-back, faults-push, follows_within, room_within, tally-push, tally_of, within-push, within_front, within_none}
-use Rattle.fault_text.proofs.Lengths.{line_text-short, texts-short}
+use Rattle.fault_text.proofs.Lengths.{texts-short}
 use Rattle.fault_text.proofs.LineWords.{fault_line, fault_parts, line_text-long, one_line}
 
 texts-append : (lines more : List FaultLine) → texts (lines ++ more) ≡ texts lines ++ texts more

@@ -1,17 +1,15 @@
 -- The faults of lines that one text can have are valid.
-use Rattle.std.proofs.Common.{◌≡◌, ℕ, ◌+◌, ◌^◌, ◌<◌, ◌≤◌, Bool, true, false, List, [], ◌∷◌, ◌++◌, length, map, refl, sym, ap, ◌∙◌, subst, arith}
+use Rattle.std.proofs.Common.{◌≡◌, ℕ, ◌^◌, ◌<◌, ◌≤◌, true, false, List, [], ◌∷◌, map, refl, sym, subst, arith}
 use Rattle.std.specs.Prelude.{All, AllPairs, flat_map}
 use Rattle.std.proofs.lemmas.List.Elements.{All-nil, All-cons, All-head, All-tail, All-append}
 use Rattle.std.proofs.lemmas.List.Kept.{AllPairs-cons}
 use Rattle.storage_model.specs.declared.faults.ArrayHit.{ArrayHit}
-use Rattle.storage_model.specs.declared.faults.BusKind.{BusKind}
 use Rattle.storage_model.specs.declared.faults.Faults.{Faults}
 use Rattle.storage_model.specs.declared.faults.Hit.{Hit}
-use Rattle.storage_model.specs.declared.faults.Letter.{Letter}
 use Rattle.fault_text.specs.declared.line.FaultLine.{FaultLine}
 use Rattle.fault_text.specs.declared.line.FaultLine.TheVariants.{Ready, Bus, Program, Fetch, Cut, Turn}
-use Rattle.fault_text.specs.Faults.{AreRising, AreValid, AreWithin, IsHit, IsValidArrayHits, IsValidHits, Means, array_of, bus_number, bus_of, faults_of, fetch_number, program_number}
-use Rattle.fault_text.specs.Lines.{IsKind, IsLine}
+use Rattle.fault_text.specs.Faults.{AreRising, AreValid, AreWithin, IsHit, IsValidHits, Means, array_of, bus_number, bus_of, faults_of, fetch_number, program_number}
+use Rattle.fault_text.specs.Lines.{IsLine}
 use Rattle.fault_text.proofs.Rises.{rises_head, rises_map, rises_tail}
 
 -- what holds of what each line adds holds of what all add

@@ -1,4 +1,4 @@
-use Rattle.std.proofs.Common.{◌≡◌, ◌<◌, arith, length, ap, false, ◌∙◌, sym}
+use Rattle.std.proofs.Common.{arith, length, ap, ◌∙◌, sym}
 use Rattle.std.proofs.lemmas.Bool.{eqb-true, eqb-false}
 use Rattle.fault_text.proofs.HexNumbers.{number_numeral, number_short, reads_padded}
 use Rattle.fault_text.proofs.numbers.read_hex.Goals as goal

@@ -1,8 +1,5 @@
-use Rattle.std.proofs.Common.{◌≡◌, ℕ, List, ◌+◌, ◌∙◌, ap, sym, length, arith, subst}
+use Rattle.std.proofs.Common.{◌+◌, ◌∙◌, sym, length}
 use Rattle.std.proofs.lemmas.Bool.{eqb-true}
-use Rattle.std.proofs.lemmas.List.{length-append}
-use Rattle.storage_model.specs.declared.faults.Faults.{Faults}
-use Rattle.fault_text.specs.Faults.{IsBadAt}
 use Rattle.fault_text.proofs.LineWords.{no_fault}
 use Rattle.fault_text.proofs.Meanings.{all_read, bad_here, meaning_fits, no_bad_line, one_meaning, none_next, taken_more, taken_none}
 use Rattle.fault_text.proofs.Valid.{meaning_valid}
