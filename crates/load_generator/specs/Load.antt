@@ -1,5 +1,5 @@
 -- The load: 4,096 requests, of three draws each.
-use Rattle.std.specs.Prelude.{ℕ, ◌+◌, ◌-◌, ◌*◌, ◌%◌, ◌==◌, nat_lt, min, Bool, true, false, if◌then◌else◌, List, [], map}
+use Rattle.std.specs.Prelude.{ℕ, ◌+◌, ◌-◌, ◌*◌, ◌%◌, ◌==◌, nat_lt, min, true, false, if◌then◌else◌, List, [], map}
 use Rattle.std.specs.List.{range_with_len}
 use Rattle.storage_model.specs.declared.plan.Fill.TheVariants.{Ramp}
 use Rattle.storage_model.specs.declared.plan.Job.{Job}

@@ -1,6 +1,6 @@
-use Rattle.std.proofs.Common.{◌≡◌, ◌∙◌, sym, refl, ap, arith, ◌<◌, ℕ, subst}
-use Rattle.load_generator.specs.Load.{job_at, jobs}
-use Rattle.load_generator.proofs.Loads.{job_drawn, jobs_blocks, jobs_more, jobs_none, jobs_valid, length-jobs, number-three, plan_valid}
+use Rattle.std.proofs.Common.{◌≡◌, ◌∙◌, refl, ap, arith}
+use Rattle.load_generator.specs.Load.{jobs}
+use Rattle.load_generator.proofs.Loads.{job_drawn, jobs_more, jobs_none, number-three, plan_valid}
 use Rattle.load_generator.proofs.plan.load_plan.Goals as goal
 
 pub loop-place-init : goal.loop-place-init
