@@ -1,0 +1,6 @@
+pub mod Filling
+pub mod Finding
+pub mod Serving
+pub mod Progresses
+pub mod HeldLaws
+pub mod OneDue

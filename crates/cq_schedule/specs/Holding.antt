@@ -1,0 +1,28 @@
+-- Which tasks the engine has to hold.
+use Rattle.std.specs.Prelude.{◌≡◌, ℕ, ◌<◌, Bool, true, false, IsSome}
+use Rattle.std.specs.Option.{IsSomeAnd}
+use Rattle.cq_regs.specs.declared.slots.Progress.{Progress}
+use Rattle.cq_regs.specs.declared.slots.Progress.TheVariants.{Idle, Rung}
+use Rattle.cq_regs.specs.State.{Registers}
+use Rattle.cq_regs.specs.Slots.{progress_of}
+use Rattle.cq_schedule.specs.Held.{Places, held_at}
+
+-- whether a slot is named, and not complete
+abbrev pub is_begun : Progress → Bool
+is_begun Idle = false
+is_begun Rung = false
+is_begun _ = true
+
+-- the engine holds the task of a slot, and left it as far as it is
+abbrev pub IsHeld : Places → Registers → ℕ → Type 0
+IsHeld held regs slot = IsSomeAnd (held_at held slot) (λ h. h.progress ≡ progress_of regs.ring slot)
+
+-- while it isn't stopped, the engine holds the task of each slot that is named and not complete
+abbrev pub HoldsTasks : Places → Registers → Type 0
+HoldsTasks held regs =
+    regs.stopped ≡ false → (slot : ℕ) → slot < 32 → is_begun (progress_of regs.ring slot) ≡ true → IsHeld held regs slot
+
+-- the same without how far it left it
+abbrev pub HasTasks : Places → Registers → Type 0
+HasTasks held regs =
+    regs.stopped ≡ false → (slot : ℕ) → slot < 32 → is_begun (progress_of regs.ring slot) ≡ true → IsSome (held_at held slot)
