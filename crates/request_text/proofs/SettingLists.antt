@@ -10,7 +10,7 @@ use Rattle.storage_model.specs.declared.plan.Plan.{Plan}
 use Rattle.request_text.specs.declared.setting.Setting.{Setting}
 use Rattle.request_text.specs.declared.setting.Setting.TheVariants.{Depth, Cache, Descriptors, Coalesce}
 use Rattle.request_text.specs.Meaning.{AreSettings}
-use Rattle.request_text.specs.Settings.{AreLines, AreOnce, IsNew, IsSetting, kind_of, plan_of, setting_text, settings_text, standard, with_cache, with_setting}
+use Rattle.request_text.specs.Settings.{IsCache, AreOnce, IsNew, IsSetting, kind_of, plan_of, setting_text, settings_text, standard, with_cache, with_setting}
 use Rattle.request_text.proofs.LineTexts.{line_long}
 use Rattle.request_text.proofs.SettingTexts.{one_setting, setting_text-line}
 
@@ -158,7 +158,7 @@ pub record HasNumbers (plan : Plan) : Type 0 where
   pub lines : (1 ≤ plan.lines) × (plan.lines ≤ 1024)
   pub coalesce : plan.coalesce ≤ 31
 
-cache_numbers : (plan : Plan) (lines : Option ℕ) → AreLines lines → HasNumbers plan → HasNumbers (with_cache plan lines)
+cache_numbers : (plan : Plan) (lines : Option ℕ) → IsCache lines → HasNumbers plan → HasNumbers (with_cache plan lines)
 cache_numbers plan (Some lines) valid numbers = record { depth = numbers.depth; lines = valid; coalesce = numbers.coalesce }
 cache_numbers plan None valid numbers = record { depth = numbers.depth; lines = (omega arith, omega arith); coalesce = numbers.coalesce }
 

@@ -13,7 +13,7 @@ use Rattle.request_text.specs.declared.setting.Kind.{Kind}
 use Rattle.request_text.specs.declared.setting.Kind.TheVariants.{Depth as DepthKind, Cache as CacheKind, Descriptors as DescriptorsKind, Coalesce as CoalesceKind}
 use Rattle.request_text.specs.declared.setting.Setting.{Setting}
 use Rattle.request_text.specs.declared.setting.Setting.TheVariants.{Depth, Cache, Descriptors, Coalesce}
-use Rattle.request_text.specs.Settings.{AreLines, IsSetting, kind_of, kind_text, lines_text, setting_text, setting_words, value_text, width_text}
+use Rattle.request_text.specs.Settings.{IsCache, IsSetting, kind_of, kind_text, lines_text, setting_text, setting_words, value_text, width_text}
 
 kind_word : (kind : Kind) → IsWord (kind_text kind)
 kind_word DepthKind = word_from_test (codes "depth") refl
@@ -21,7 +21,7 @@ kind_word CacheKind = word_from_test (codes "cache") refl
 kind_word DescriptorsKind = word_from_test (codes "desc") refl
 kind_word CoalesceKind = word_from_test (codes "coalesce") refl
 
-lines_word : (lines : Option ℕ) → AreLines lines → IsWord (lines_text lines)
+lines_word : (lines : Option ℕ) → IsCache lines → IsWord (lines_text lines)
 lines_word (Some n) fits = decimal_word n (omega arith)
 lines_word None fits = word_from_test (codes "off") refl
 
@@ -77,7 +77,7 @@ same_kind CoalesceKind CoalesceKind e = refl
 no_off : (n : ℕ) → n < 2 ^ 32 → decimal n ≢ codes "off"
 no_off n fits e = omega (arith, decimal_low n fits, ap (λ w. slice_index w 0) e)
 
-same_lines : (lines other : Option ℕ) → AreLines lines → AreLines other → lines_text lines ≡ lines_text other → lines ≡ other
+same_lines : (lines other : Option ℕ) → IsCache lines → IsCache other → lines_text lines ≡ lines_text other → lines ≡ other
 same_lines (Some m) (Some n) fits small e = ap Some (decimal_injective m n (omega arith) (omega arith) e)
 same_lines (Some m) None fits small e = absurd (no_off m (omega arith) e)
 same_lines None (Some n) fits small e = absurd (no_off n (omega arith) (sym e))

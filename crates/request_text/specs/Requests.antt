@@ -1,4 +1,5 @@
--- The lines of requests. A request has one text, given the blocks that it lists.
+-- The lines of requests. A request has one text, given the blocks that it lists. Its flags are those of the task descriptor:
+-- forced programming, reliable write and priority (JESD84-B51, command queuing; cqhci.h).
 use Rattle.std.specs.Prelude.{◌≡◌, ℕ, ◌+◌, ◌^◌, ◌<◌, ◌≤◌, Bool, true, false, List, [], ◌∷◌, ◌++◌, length, take, drop, flat_map, codes, decimal}
 use Rattle.hex.specs.Hex.{IsBytes, encode_lower}
 use Rattle.storage_model.specs.declared.block.Block.{Block}

@@ -1,4 +1,6 @@
--- The lines that set up a run. They stand before all requests, each kind at most once.
+-- The lines that set up a run: the depth of the command queue (JESD84-B51, CMDQ_DEPTH), the cache (CACHE_CTRL), the width of
+-- descriptors and interrupt coalescing (cqhci.h, CQHCI_TASK_DESC_SZ and CQHCI_IC). They stand before all requests, each kind at
+-- most once.
 use Rattle.std.specs.Prelude.{◌≢◌, ℕ, ◌≤◌, Bool, true, false, List, [], ◌∷◌, Option, Some, None, All, fold, flat_map, codes, decimal}
 use Rattle.storage_model.specs.declared.block.Block.{Block}
 use Rattle.storage_model.specs.declared.plan.Job.{Job}
@@ -49,14 +51,14 @@ setting_text setting = line (setting_words setting)
 abbrev pub settings_text : List Setting → List ℕ
 settings_text settings = flat_map setting_text settings
 
-abbrev pub AreLines : Option ℕ → Type 0
-AreLines (Some lines) = (1 ≤ lines) × (lines ≤ 1024)
-AreLines None = Unit {0}
+abbrev pub IsCache : Option ℕ → Type 0
+IsCache (Some lines) = (1 ≤ lines) × (lines ≤ 1024)
+IsCache None = Unit {0}
 
 -- a setting's number is within its limits
 abbrev pub IsSetting : Setting → Type 0
 IsSetting (Depth depth) = (1 ≤ depth) × (depth ≤ 31)
-IsSetting (Cache lines) = AreLines lines
+IsSetting (Cache lines) = IsCache lines
 IsSetting (Descriptors wide) = Unit {0}
 IsSetting (Coalesce count) = count ≤ 31
 

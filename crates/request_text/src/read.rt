@@ -25,8 +25,8 @@ const MAX_BLOCKS: u32 = 131_072;
 
 /// The plan that a text means: its settings come first, each kind at most once, and then its requests. `Bad` gives the
 /// first line, counted from 1, with which the text means no plan: one that is no setting and no request, or stands where
-/// it may not, or passes a limit on requests, blocks or bytes. Digits are decoded into the plan's blocks, in the order
-/// of their requests.
+/// it may not, or passes a limit: 65,536 requests, 131,072 blocks over all requests, 16 MiB of text. Digits are decoded
+/// into the plan's blocks, in the order of their requests. Memory is taken for the plan's lists and its settings.
 pub fn read_requests(alloc: Global, bytes: &[u8]) -> Result<Plan, TextEnd>
     ensures means { IfOk result (Means bytes.now) }
     ensures valid { IfOk result IsValidPlan }

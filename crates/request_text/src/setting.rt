@@ -2,7 +2,7 @@
 ghost use Rattle.std.specs.Prelude.{◌≡◌, ◌≤◌, ◌∷◌, [], codes, decimal};
 ghost use Rattle.text_words.specs.Reads.{Reads};
 ghost use Rattle.text_words.specs.Words.{spaced};
-ghost use Rattle.request_text.specs.Settings.{AreLines, IsSetting, kind_of, kind_text, lines_text, setting_words, value_text, width_text};
+ghost use Rattle.request_text.specs.Settings.{IsCache, IsSetting, kind_of, kind_text, lines_text, setting_words, value_text, width_text};
 
 use text_words::{Words, read_decimal_in};
 
@@ -15,13 +15,13 @@ const MAX_COALESCE: u16 = 31;
 /// What a line before the requests sets.
 #[derive(Clone, Copy, Debug, PartialEq, Eq)]
 pub enum Setting {
-    /// The depth of the command queue, 1 to 31.
+    /// The depth of the command queue, 1 to 31 (JESD84-B51, CMDQ_DEPTH).
     Depth(u8),
-    /// The lines of the cache, 1 to 1,024, or none where the cache is off.
+    /// The lines of the cache, 1 to 1,024, or `None` where the cache is off (JESD84-B51, CACHE_CTRL).
     Cache(Option<u16>),
-    /// Whether descriptors are of 128 bits, in place of 64.
+    /// Whether task and transfer descriptors are of 128 bits, in place of 64 (cqhci.h, CQHCI_TASK_DESC_SZ).
     Descriptors(bool),
-    /// How many completions are coalesced into one interrupt, 0 to 31; 0 is no coalescing.
+    /// How many completions are coalesced into one interrupt, 0 to 31; 0 is no coalescing (cqhci.h, CQHCI_IC_ICCTH).
     Coalesce(u8),
 }
 
@@ -107,7 +107,7 @@ fn number(value: &[u8], low: u16, high: u16) -> Option<u8>
 }
 
 fn lines(value: &[u8]) -> Option<Option<u16>>
-    ensures { Reads result (λ lines. AreLines lines × (value.now ≡ lines_text lines)) }
+    ensures { Reads result (λ lines. IsCache lines × (value.now ≡ lines_text lines)) }
 {
     match value {
         b"off" => Some(None),

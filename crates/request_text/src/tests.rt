@@ -218,3 +218,14 @@ fn limits_are_kept(rt: HostRuntime) -> Result<(), Fail> {
     assert_eq!(rt; bad_line(alloc, over.as_slice()), Some(130));
     Ok(())
 }
+
+#[test]
+fn long_texts_are_cut_off(rt: HostRuntime) -> Result<(), Fail> {
+    let alloc = rt.alloc();
+    let line = repeated(alloc, b"write 0 1024 hex ", b"a9", 524_288, b"\n")?;
+    let most = repeated(alloc, b"", line.as_slice(), 15, b"")?;
+    assert_eq!(rt; read_requests(alloc, most.as_slice())?.blocks.len(), 15_360);
+    let more = repeated(alloc, most.as_slice(), line.as_slice(), 1, b"flush\n")?;
+    assert_eq!(rt; bad_line(alloc, more.as_slice()), Some(16));
+    Ok(())
+}
