@@ -12,14 +12,14 @@ use std::alloc::Global;
 use std::process::Abort;
 use storage_model::{Block, BusKind};
 
-/// A card that answers with the words that it is told, and else with 00000900. It remembers what crossed.
+/// A card that answers with the words that it is told, and else with 00000900. It remembers what crossed. Its counts stand at
+/// their ends, and tell nothing.
 #[derive(Drop)]
 struct Card {
     answers: [Result<u32, LinkEnd>; 8],
     answered: usize,
     block_end: Option<LinkEnd>,
     fill: u8,
-    powered: bool,
     sent: ArrayVec<(u8, u32), 32>,
     given: ArrayVec<u8, 32>,
 }
@@ -30,7 +30,6 @@ fn answering(answers: [Result<u32, LinkEnd>; 8]) -> Card {
         answered: 0,
         block_end: None,
         fill: 0,
-        powered: true,
         sent: ArrayVec::new(),
         given: ArrayVec::new(),
     }
@@ -43,27 +42,19 @@ impl Card {
             None => Ok(0x900),
         };
         self.answered = self.answered.saturating_add(1);
-        if let Err(LinkEnd::Dark) = answer {
-            self.powered = false;
-        }
         answer
     }
 
     fn end_of_block(&mut self) -> Result<(), LinkEnd> {
         match self.block_end {
-            Some(end) => {
-                if let LinkEnd::Dark = end {
-                    self.powered = false;
-                }
-                Err(end)
-            }
+            Some(end) => Err(end),
             None => Ok(()),
         }
     }
 }
 
 impl Link for Card {
-    ghost use Rattle.std.specs.Prelude.{true};
+    ghost use Rattle.std.specs.Prelude.{true, false};
     ghost use Rattle.bus_link.specs.Link.{Call, LinkState};
     ghost use Rattle.storage_model.specs.Count.{Count};
 
@@ -73,7 +64,7 @@ impl Link for Card {
 
     ghost fits = { λ _. Unit {0} };
 
-    ghost state = { λ card. record { bus = record { value = 0; stands = true }; flash = record { value = 0; stands = true }; cuts = record { value = 0; stands = true }; powered = card.powered } };
+    ghost state = { λ _. record { bus = record { value = 0; stands = true }; flash = record { value = 0; stands = true }; cuts = record { value = 0; stands = true }; powered = false } };
 
     ghost kept = { λ _. tt };
 
