@@ -100,8 +100,6 @@ struct Bench {
 }
 
 impl Bench {
-    /// The registers as a driver sets them up: every interrupt, direct commands, the task descriptor list at 20010000, and 1
-    /// as the address of the card.
     fn start(rt: &impl Abort, alloc: Global, answers: [Result<u32, LinkEnd>; 8]) -> Bench
         ensures holds { Holds result.engine result.regs }
         ensures lie { LieIn result.mem result.engine.held }
@@ -118,20 +116,31 @@ impl Bench {
             mem,
             link: answering(answers),
         };
-        bench.write(rt, 0x14, 0xf);
-        bench.write(rt, 0x08, 0x1001);
-        bench.write(rt, 0x20, 0x2001_0000);
-        bench.write(rt, 0x44, 1);
+        bench.set_up(rt);
         bench
     }
 
+    // The registers as a driver sets them up: every interrupt, direct commands, the task descriptor list at 20010000, and 1
+    // as the address of the card.
+    fn set_up(&mut self, rt: &impl Abort)
+        requires holds { Holds self.old.engine self.old.regs }
+        requires lie { LieIn self.old.mem self.old.engine.held }
+        ensures holds { Holds self.new.engine self.new.regs }
+        ensures lie { LieIn self.new.mem self.new.engine.held }
+    {
+        self.write(rt, 0x14, 0xf);
+        self.write(rt, 0x08, 0x1001);
+        self.write(rt, 0x20, 0x2001_0000);
+        self.write(rt, 0x44, 1);
+    }
+
     fn write(&mut self, rt: &impl Abort, offset: u8, value: u32)
+        requires holds { Holds self.old.engine self.old.regs }
         requires lie { LieIn self.old.mem self.old.engine.held }
         ensures holds { Holds self.new.engine self.new.regs }
         ensures lie { LieIn self.new.mem self.new.engine.held }
     {
         assert!(rt; self.regs.write(offset, value) == Ok(()));
-        assert!(rt; self.engine.holds(&self.regs));
     }
 
     // Puts the first descriptor of a slot, and its second.
@@ -369,10 +378,9 @@ fn faults_of_the_bus(rt: HostRuntime) {
         )
     );
     assert!(rt; bench.reads(0x54, 0x812f_0000) && bench.reads(0x58, 47));
-    bench.write(&rt, 0x0c, 1);
-    bench.write(&rt, 0x0c, 0x101);
     bench.engine.reset();
-    bench.write(&rt, 0x0c, 0);
+    bench.regs = Regs::new();
+    bench.set_up(&rt);
     bench.write(&rt, 0x28, 2);
     assert!(rt;
         matches!(
