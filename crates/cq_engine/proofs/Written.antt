@@ -1,12 +1,12 @@
 -- A write of a register leaves what the engine has to hold: no slot begins, and a stop ends only where all tasks are cleared.
-use Rattle.std.proofs.Common.{◌≡◌, ◌<◌, ◌==◌, ◌&&◌, ℕ, Bool, true, false, cond, refl, sym, ◌∙◌, ap, subst}
-use Rattle.std.specs.Prelude.{List, [], ◌∷◌, not, Option, Some, None, IsSome, IfSome}
+use Rattle.std.proofs.Common.{◌≡◌, ◌==◌, ◌&&◌, ℕ, Bool, true, false, cond, refl, sym, ◌∙◌, ap, subst}
+use Rattle.std.specs.Prelude.{List, [], ◌∷◌, not, Option, Some, None, IfSome}
 use Rattle.std.specs.List.{find}
 use Rattle.std.specs.Option.{IsSomeAnd, option_map_or}
 use Rattle.std.proofs.lemmas.Bool.{false≢true, eqb-true}
 use Rattle.std.specs.Int.RustNames.{bit_and}
 use Rattle.cq_regs.specs.declared.slots.Progress.{Progress}
-use Rattle.cq_regs.specs.declared.slots.Progress.TheVariants.{Idle, Rung, Named, Sent, Ready, Active}
+use Rattle.cq_regs.specs.declared.slots.Progress.TheVariants.{Idle, Rung}
 use Rattle.cq_regs.specs.declared.slots.Ringed.{Ringed}
 use Rattle.cq_regs.specs.declared.table.Register.{Register}
 use Rattle.cq_regs.specs.declared.table.Register.TheVariants.{Version, Capabilities, Configuration, Control, InterruptStatus, InterruptStatusEnable, InterruptSignalEnable, InterruptCoalescing, ListBase, ListBaseUpper, Doorbell, CompletionNotification, DeviceQueueStatus, DevicePendingTasks, TaskClear, SendStatusConfiguration1, SendStatusConfiguration2, DirectCommandResponse, ResponseErrorMask, TaskErrorInformation, CommandResponseIndex, CommandResponseArgument}
@@ -16,10 +16,9 @@ use Rattle.cq_regs.specs.declared.table.Row.{Row}
 use Rattle.cq_regs.specs.State.{Registers}
 use Rattle.cq_regs.specs.Slots.{has_bit, is_rung, progress_of, rung, without_slots, Moves}
 use Rattle.cq_regs.specs.Table.{row_at}
-use Rattle.cq_regs.specs.Effects.{acted, belled, cleared, controlled, halt_complete, raised, stored, task_cleared, tasks_cleared, value_of, without_bits, written, written_by, RingsSlots}
-use Rattle.cq_schedule.specs.declared.held.HeldTask.{HeldTask}
+use Rattle.cq_regs.specs.Effects.{acted, cleared, controlled, halt_complete, raised, stored, task_cleared, tasks_cleared, value_of, without_bits, written, written_by, RingsSlots}
 use Rattle.cq_schedule.specs.Held.{held_at}
-use Rattle.cq_schedule.specs.Holding.{HoldsTasks, is_begun}
+use Rattle.cq_schedule.specs.Holding.{is_begun}
 use Rattle.cq_engine.specs.Outcome.{Holding}
 use Rattle.cq_engine.specs.Holds.{Holds}
 
