@@ -1,6 +1,6 @@
 -- The bus as the host interface sees it: what crosses it, and how a call of it ends (JESD84-B51, section 6.6.39 and annex B).
-use Rattle.std.specs.Prelude.{◌≡◌, ◌⊎◌, ℕ, ◌+◌, ◌^◌, ◌==◌, Bool, true, false, not, Result, OnOk, IfOk, IfErr}
-use Rattle.std.specs.Int.RustNames.{bit_and}
+use Rattle.std.specs.Prelude.{◌≡◌, ◌⊎◌, ℕ, ◌==◌, ◌||◌, Bool, true, false, Result, OnOk, IfOk, IfErr}
+use Rattle.std.specs.Int.{bit_at}
 use Rattle.storage_model.specs.Count.{Count, Later, Rose}
 use Rattle.storage_model.specs.declared.block.Block.{Block}
 use Rattle.cmd_words.specs.declared.command.Command.{Command}
@@ -42,9 +42,9 @@ abbrev pub is_poll : Command → Bool
 is_poll (StatusCommand queue rca) = queue
 is_poll _ = false
 
--- a word with the bit DEVICE_ECC_FAILED or ERROR (JESD84-B51, section 6.13)
+-- a word with the bit 19, ERROR, or 21, DEVICE_ECC_FAILED (JESD84-B51, section 6.13)
 abbrev pub tells_flash : ℕ → Bool
-tells_flash word = not (bit_and word (2 ^ 21 + 2 ^ 19) == 0)
+tells_flash word = (bit_at word 19 == 1) || (bit_at word 21 == 1)
 
 -- a status word that tells of the flash comes only where that failed in this call
 abbrev pub TellsFlash : LinkState → LinkState → ℕ → Type 0

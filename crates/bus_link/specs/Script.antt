@@ -1,6 +1,7 @@
 -- A bus whose faults and whose answers to polls are told beforehand, and what its calls leave.
-use Rattle.std.specs.Prelude.{◌≡◌, ◌≤◌, ℕ, ◌+◌, ◌-◌, ◌^◌, nat_lt, List, [], ◌∷◌, ◌++◌, length, Option, None, if◌then◌else◌, slice_get, slice_index_or, min}
+use Rattle.std.specs.Prelude.{◌≡◌, ◌≤◌, ℕ, ◌+◌, ◌-◌, ◌^◌, ◌==◌, nat_lt, List, [], ◌∷◌, ◌++◌, length, Option, None, if◌then◌else◌, slice_get, slice_index_or, min}
 use Rattle.circular_buffer.specs.Buffer.{keep_last}
+use Rattle.storage_model.specs.Count.{Count}
 use Rattle.storage_model.specs.declared.faults.BusKind.{BusKind}
 use Rattle.storage_model.specs.declared.faults.Hit.{Hit}
 use Rattle.cmd_words.specs.declared.command.Command.{Command}
@@ -32,6 +33,10 @@ armed s command blocks = record s {
 -- a bus fault counted
 abbrev pub struck : Script → Script
 struck s = record s { faults = min (s.faults + 1) (2 ^ 64 - 1) }
+
+-- how often the bus failed: a counter of 64 bits stays at its last value
+abbrev pub bus_count : Script → Count
+bus_count s = record { value = s.faults; stands = (s.faults == 2 ^ 64 - 1) }
 
 -- the word of the next poll: all ones where none is left
 abbrev pub next_word : Script → ℕ

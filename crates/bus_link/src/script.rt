@@ -35,7 +35,8 @@ impl Model for ScriptLink {
 }
 
 impl ScriptLink {
-    ghost use Rattle.bus_link.specs.Script.{armed, at_start, newest, next_word, struck, word_used};
+    ghost use Rattle.storage_model.specs.Count.{Later, Rose};
+    ghost use Rattle.bus_link.specs.Script.{armed, at_start, bus_count, newest, next_word, struck, word_used};
 
     /// A bus before its first command. The numbers of the faults count the commands from 1, and rise.
     ///
@@ -84,7 +85,9 @@ impl ScriptLink {
     /// Counts the fault of the last command.
     pub fn strike(&mut self)
         requires { IsSome self.old.hit }
-        ensures { self.new ≡ struck self.old }
+        ensures struck { self.new ≡ struck self.old }
+        ensures rose { Rose (bus_count self.old) (bus_count self.new) }
+        ensures later { Later (bus_count self.old) (bus_count self.new) }
     {
         self.faults = self.faults.saturating_add(1);
     }

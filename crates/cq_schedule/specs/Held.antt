@@ -1,6 +1,6 @@
 -- The tasks that the engine holds: for each of the 32 slots what was read when the slot was served, with how far the slot
 -- was when the engine left it and how many of its blocks moved (JESD84-B51, annex B).
-use Rattle.std.specs.Prelude.{ℕ, ◌+◌, ◌<◌, Bool, true, false, List, map, Option, Some, None, replicate, slice_index_or, if◌then◌else◌}
+use Rattle.std.specs.Prelude.{◌≡◌, ℕ, ◌+◌, ◌<◌, Bool, true, false, List, map, Option, Some, None, replicate, slice_index_or, if◌then◌else◌}
 use Rattle.std.specs.List.{range_with_len}
 use Rattle.cq_regs.specs.declared.slots.Progress.{Progress}
 use Rattle.cq_regs.specs.declared.slots.Progress.TheVariants.{Idle, Rung, Named, Sent, Ready, Active}
@@ -64,3 +64,7 @@ left_at progress None = None
 -- each task with how far its slot is
 abbrev pub noted : Places → Registers → Places
 noted held regs = map (λ slot. left_at (progress_of regs.ring slot) (held_at held slot)) slots
+
+-- for each slot what is held comes to what is said of how far the slot is and of what was held
+abbrev pub EachBecomes : (old new : Places) → Registers → (Progress → Option HeldTask → Option HeldTask) → Type 0
+EachBecomes old new regs after = (slot : ℕ) → slot < 32 → held_at new slot ≡ after (progress_of regs.ring slot) (held_at old slot)

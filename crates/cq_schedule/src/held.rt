@@ -1,8 +1,8 @@
-ghost use Rattle.std.specs.Prelude.{◌≡◌, ◌↔◌, ℕ, ◌<◌, true, None, Some, IfOk, IsTrue, length, slice_set};
+ghost use Rattle.std.specs.Prelude.{◌≡◌, ◌↔◌, ◌<◌, true, None, Some, IfOk, IsTrue, length, slice_set};
 ghost use Rattle.std.specs.Option.{option_copied, option_map, IsSomeAnd};
 ghost use Rattle.cq_regs.specs.Slots.{progress_of};
 ghost use Rattle.cq_schedule.specs.Holding.{is_begun, HasTasks, HoldsTasks, IsHeld};
-ghost use Rattle.cq_schedule.specs.Held.{held_at, kept, left_at, newly_held, none_held, noted, remembered, same, with_block, HasBlockLeft};
+ghost use Rattle.cq_schedule.specs.Held.{held_at, kept, left_at, newly_held, none_held, noted, remembered, same, with_block, EachBecomes, HasBlockLeft};
 
 use cq_regs::{Progress, Regs};
 use cq_task::{DataTask, SLOTS};
@@ -63,7 +63,7 @@ impl HeldTasks {
     /// Forgets the tasks of the slots that are not as far as the engine left them.
     pub fn forget(&mut self, regs: &Regs)
         ensures all { self.new ≡ remembered self.old regs.now }
-        ensures each { (slot : ℕ) → slot < 32 → held_at self.new slot ≡ kept (progress_of regs.now.ring slot) (held_at self.old slot) }
+        ensures each { EachBecomes self.old self.new regs.now kept }
         ensures holds { HoldsTasks self.old regs.now → HoldsTasks self.new regs.now }
     {
         forget(self.places.as_mut_slice(), regs);
@@ -128,7 +128,7 @@ impl HeldTasks {
     /// Notes how far the slots of the tasks that are held have come: so far the engine leaves them.
     pub fn note(&mut self, regs: &Regs)
         ensures all { self.new ≡ noted self.old regs.now }
-        ensures each { (slot : ℕ) → slot < 32 → held_at self.new slot ≡ left_at (progress_of regs.now.ring slot) (held_at self.old slot) }
+        ensures each { EachBecomes self.old self.new regs.now left_at }
         ensures holds { HasTasks self.old regs.now → HoldsTasks self.new regs.now }
     {
         note(self.places.as_mut_slice(), regs);
@@ -147,7 +147,7 @@ fn clear(places: &mut [Option<HeldTask>])
 fn forget(places: &mut [Option<HeldTask>], regs: &Regs)
     requires { length places.old ≡ 32 }
     ensures all { places.new ≡ remembered places.old regs.now }
-    ensures each { (slot : ℕ) → slot < 32 → held_at places.new slot ≡ kept (progress_of regs.now.ring slot) (held_at places.old slot) }
+    ensures each { EachBecomes places.old places.new regs.now kept }
     ensures holds { HoldsTasks places.old regs.now → HoldsTasks places.new regs.now }
 {
     for slot in 0..SLOTS {
@@ -158,7 +158,7 @@ fn forget(places: &mut [Option<HeldTask>], regs: &Regs)
 fn note(places: &mut [Option<HeldTask>], regs: &Regs)
     requires { length places.old ≡ 32 }
     ensures all { places.new ≡ noted places.old regs.now }
-    ensures each { (slot : ℕ) → slot < 32 → held_at places.new slot ≡ left_at (progress_of regs.now.ring slot) (held_at places.old slot) }
+    ensures each { EachBecomes places.old places.new regs.now left_at }
     ensures holds { HasTasks places.old regs.now → HoldsTasks places.new regs.now }
 {
     for slot in 0..SLOTS {

@@ -1,4 +1,4 @@
-ghost use Rattle.std.specs.Prelude.{◌≡◌, ◌≢◌, ◌+◌, ◌-◌, ◌*◌, ◌≤◌, ℕ, length, min, take, drop};
+ghost use Rattle.std.specs.Prelude.{◌≡◌, ◌+◌, ◌-◌, ◌*◌, ◌≤◌, length, min, take, drop};
 ghost use Rattle.host_mem.specs.Memory.{HasRange, bytes_of, with_bytes};
 ghost use Rattle.cq_chain.specs.Descriptors.{AreInside, bytes_in};
 ghost use Rattle.piece_data.specs.Data.{block_of, bytes_at, parts, scatter, with_block};
@@ -11,7 +11,8 @@ use storage_model::Block;
 /// The bytes of a block.
 const BLOCK_BYTES: u32 = 512;
 
-/// Reads block `k` of the data of these pieces: its bytes `512 * k` to `512 * k + 511`, in the order of the pieces.
+/// Reads block `k` of the data of these pieces: the bytes `512 * k` to `512 * k + 511` of what the pieces hold one after
+/// the other, in the order of the chain (JESD84-B51, annex B). It takes no memory.
 pub fn read_block(mem: &HostMem, pieces: &[Piece], k: u16, block: &mut Block)
     requires inside { AreInside mem.now pieces.now }
     requires whole { 512 * (k + 1) ≤ bytes_in pieces.now }
@@ -20,8 +21,8 @@ pub fn read_block(mem: &HostMem, pieces: &[Piece], k: u16, block: &mut Block)
     gather(mem, pieces, BLOCK_BYTES * u32::from(k), &mut block.0);
 }
 
-/// Writes block `k` of the data of these pieces, in the order of the pieces: where two of them overlap, the later one
-/// has its bytes.
+/// Writes block `k` of the data of these pieces, in the order of the chain (JESD84-B51, annex B): where two of them
+/// overlap, the later one has its bytes. It takes no memory.
 pub fn write_block(mem: &mut HostMem, pieces: &[Piece], k: u16, block: &Block)
     requires inside { AreInside mem.old pieces.now }
     requires whole { 512 * (k + 1) ≤ bytes_in pieces.now }
