@@ -1,0 +1,4 @@
+pub mod Card
+pub mod Moving
+pub mod Response
+pub mod Serving

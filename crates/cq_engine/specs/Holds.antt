@@ -1,0 +1,31 @@
+-- What the engine holds between its events.
+use Rattle.std.specs.Prelude.{◌≡◌, ◌<◌, ◌*◌, ℕ, true, IfSome, IsSome}
+use Rattle.host_mem.specs.Memory.{Memory}
+use Rattle.cq_chain.specs.Descriptors.{AreInside, bytes_in}
+use Rattle.cq_regs.specs.State.{Registers}
+use Rattle.cq_task.specs.declared.slot.DataTask.{DataTask}
+use Rattle.cq_task.specs.declared.slot.TheConstants.{BLOCK_BYTES}
+use Rattle.cq_schedule.specs.declared.held.HeldTask.{HeldTask}
+use Rattle.cq_schedule.specs.Held.{Places, held_at}
+use Rattle.cq_schedule.specs.Holding.{HoldsTasks}
+use Rattle.cq_engine.specs.Outcome.{Holding}
+
+-- where the engine is stopped it holds the cause, else the task of each slot that is named and not complete
+pub record Holds (engine : Holding) (regs : Registers) : Type 0 where
+  pub cause : regs.stopped ≡ true → IsSome engine.cause
+  pub tasks : HoldsTasks engine.held regs
+
+-- the pieces of a task lie in the memory, and have as many bytes as its blocks
+pub record LiesIn (memory : Memory) (task : DataTask) : Type 0 where
+  pub inside : AreInside memory task.pieces
+  pub whole : bytes_in task.pieces ≡ task.desc.blocks * BLOCK_BYTES
+
+-- those of every task that is held
+abbrev pub LieIn : Memory → Places → Type 0
+LieIn memory held = (slot : ℕ) → slot < 32 → IfSome (held_at held slot) (λ h. LiesIn memory h.task)
+
+-- the next block of a task is the k-th
+pub record IsNextBlock (memory : Memory) (k : ℕ) (held : HeldTask) : Type 0 where
+  pub lies : LiesIn memory held.task
+  pub next : held.moved ≡ k
+  pub left : k < held.task.desc.blocks

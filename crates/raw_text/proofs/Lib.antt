@@ -1,0 +1,4 @@
+pub mod HexNumbers
+pub mod Meanings
+pub mod OpTexts
+pub mod OpWords

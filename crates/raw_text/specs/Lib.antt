@@ -1,0 +1,4 @@
+pub mod HexNumber
+pub mod Meaning
+pub mod Names
+pub mod Raw
