@@ -1,17 +1,16 @@
 -- What is done for what is due leaves the tasks held that have to be, and their pieces in the memory.
-use Rattle.std.proofs.Common.{◌≡◌, ◌<◌, ◌⊎◌, ◌*◌, ℕ, length, refl, sym, ◌∙◌, ap, subst, inl, inr}
+use Rattle.std.proofs.Common.{◌≡◌, ◌<◌, ◌⊎◌, ℕ, refl, sym, ◌∙◌, ap, subst, inl, inr}
 use Rattle.std.specs.Prelude.{Bool, true, false, Option, Some, None, IsSome, Result, Ok, Err}
 use Rattle.std.specs.Bool.{MatchBool}
 use Rattle.std.specs.Option.{IsSomeAnd, option_or}
 use Rattle.host_mem.specs.Memory.{Memory}
 use Rattle.bus_link.specs.Link.{Call}
 use Rattle.bus_link.specs.declared.link.Cause.{Cause}
-use Rattle.cq_regs.specs.Slots.{progress_of}
 use Rattle.cq_task.specs.declared.slot.DataTask.{DataTask}
 use Rattle.cq_task.specs.declared.slot.DropCause.{DropCause}
 use Rattle.cq_task.specs.declared.slot.SlotTask.{SlotTask}
 use Rattle.cq_task.specs.declared.slot.SlotTask.TheVariants.{Direct, Data}
-use Rattle.cq_task.specs.Meaning.{HasFirst, Means, MeansData, MeansDirect}
+use Rattle.cq_task.specs.Meaning.{Means, MeansData, MeansDirect}
 use Rattle.cq_task.specs.Place.{chain_of, first_word, is_direct}
 use Rattle.cq_task.specs.declared.list.TaskList.{TaskList}
 use Rattle.cq_schedule.specs.declared.held.HeldTask.{HeldTask}
@@ -20,11 +19,10 @@ use Rattle.cq_schedule.specs.declared.rules.Due.TheVariants.{Rest, Block as Next
 use Rattle.cq_schedule.specs.Held.{Places, held_at}
 use Rattle.cq_schedule.specs.Meaning.{HasItsSlot, list_of}
 use Rattle.piece_data.specs.Data.{block_of}
-use Rattle.cq_engine.specs.declared.did.Did.TheVariants.{Idle}
-use Rattle.cq_engine.specs.Outcome.{Holding, Host, Outcome, stop_of}
+use Rattle.cq_engine.specs.Outcome.{Holding, Host, Outcome}
 use Rattle.cq_engine.specs.After.{after_block}
-use Rattle.cq_engine.specs.Event.{Acts, Does, IsServed, MovesBlock, Serves, Takes, Gives, Exchanges, Closes, Silent}
-use Rattle.cq_engine.specs.Holds.{LieIn, LiesIn}
+use Rattle.cq_engine.specs.Event.{Acts, Does, Serves, Takes, Gives}
+use Rattle.cq_engine.specs.Holds.{LiesIn}
 use Rattle.cq_engine.proofs.Outcomes.{Keeps, Sound, address_keeps, block_keeps, close_keeps, direct_keeps, dropped_keeps, execute_keeps, params_keeps, poll_keeps, tick_keeps}
 use Rattle.cq_engine.proofs.Places.{is_some}
 

@@ -1,6 +1,6 @@
 -- Each step of an event leaves the tasks held that have to be, and their pieces in the memory.
-use Rattle.std.proofs.Common.{◌≡◌, ◌≢◌, ◌<◌, ◌⊎◌, ℕ, length, refl, sym, ◌∙◌, ap, subst, arith, inl, inr}
-use Rattle.std.specs.Prelude.{Bool, true, false, Option, Some, None, IsSome, IfSome, slice_set, cond, Result, Ok, Err}
+use Rattle.std.proofs.Common.{◌≡◌, ◌≢◌, ◌⊎◌, ℕ, sym, ◌∙◌, ap, subst, inl, inr}
+use Rattle.std.specs.Prelude.{true, Option, IsSome}
 use Rattle.std.proofs.lemmas.Bool.{false≢true}
 use Rattle.std.proofs.lemmas.Bool.Decides.{eqb_tells}
 use Rattle.cq_regs.specs.declared.slots.Progress.{Progress}
@@ -10,8 +10,8 @@ use Rattle.cq_regs.specs.Slots.{advanced, progress_of, without}
 use Rattle.cq_schedule.specs.declared.held.HeldTask.{HeldTask}
 use Rattle.cq_schedule.specs.Held.{Places, held_at}
 use Rattle.cq_schedule.specs.Holding.{HasTasks, HoldsTasks, is_begun}
-use Rattle.cq_engine.proofs.Places.{is_some, set-other, set-same}
-use Rattle.cq_engine.proofs.SlotLaws.{advanced-other, made_ready-begun, without-other, without-same}
+use Rattle.cq_engine.proofs.Places.{is_some}
+use Rattle.cq_engine.proofs.SlotLaws.{advanced-other, without-other, without-same}
 
 -- a slot that is begun has its task, or was begun before and its place is what it was
 abbrev pub Stays : (held held' : Places) (regs regs' : Registers) (other : ℕ) → Type 0

@@ -4,3 +4,4 @@ pub mod Lying
 pub mod Outcomes
 pub mod Places
 pub mod SlotLaws
+pub mod Written

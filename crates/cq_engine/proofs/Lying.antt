@@ -1,6 +1,6 @@
 -- The pieces of the tasks that are held lie in the memory.
-use Rattle.std.proofs.Common.{◌≡◌, ◌≢◌, ◌<◌, ◌⊎◌, ℕ, length, refl, sym, ◌∙◌, ap, subst, arith, inl, inr}
-use Rattle.std.specs.Prelude.{◌↔◌, Bool, true, false, List, Result, Ok, Err, IsOk, OnOk, OnErr, Option, Some, None, IfSome, slice_set, cond, ◌==◌}
+use Rattle.std.proofs.Common.{◌≡◌, ◌<◌, ℕ, length, refl, sym, subst, arith, inl, inr}
+use Rattle.std.specs.Prelude.{◌↔◌, Bool, true, false, List, Result, Ok, Err, IsOk, OnOk, OnErr, Option, Some, None, IfSome, slice_set, cond}
 use Rattle.std.specs.Option.{option_map}
 use Rattle.std.proofs.lemmas.Bool.Decides.{eqb_tells}
 use Rattle.host_mem.specs.Memory.{HasRange, Memory, with_bytes}
@@ -8,12 +8,9 @@ use Rattle.host_mem.specs.declared.memory.OutOfMemorySpace.{OutOfMemorySpace}
 use Rattle.host_mem.proofs.MemoryLaws.{with_bytes-base, with_bytes-length}
 use Rattle.piece_data.proofs.Kept.{inside-same_space}
 use Rattle.piece_data.specs.Laws.{HasSameSpace}
-use Rattle.cq_chain.specs.Descriptors.{AreInside}
-use Rattle.cq_chain.specs.declared.pieces.Piece.{Piece}
 use Rattle.cq_regs.specs.declared.slots.Progress.{Progress}
 use Rattle.cq_regs.specs.State.{Registers}
 use Rattle.cq_regs.specs.Slots.{progress_of}
-use Rattle.cq_task.specs.declared.slot.DataTask.{DataTask}
 use Rattle.cq_schedule.specs.declared.held.HeldTask.{HeldTask}
 use Rattle.cq_schedule.specs.Held.{Places, held_at, kept, left_at, none_held, same, with_block}
 use Rattle.cq_engine.specs.Holds.{LieIn, LiesIn}

@@ -1,7 +1,7 @@
 -- Whatever an answer leads to, the tasks are held that have to be, and their pieces lie in the memory.
-use Rattle.std.proofs.Common.{◌≡◌, ◌≢◌, ◌<◌, ◌⊎◌, ◌==◌, ◌&&◌, ℕ, length, refl, sym, ◌∙◌, ap, subst, arith, inl, inr}
-use Rattle.std.specs.Prelude.{Bool, true, false, not, Option, Some, None, IsSome, IfSome, slice_set, cond, Result, Ok, Err}
-use Rattle.std.specs.Option.{IsSomeAnd, option_map}
+use Rattle.std.proofs.Common.{◌≡◌, ◌<◌, ◌⊎◌, ◌==◌, ◌&&◌, ℕ, length, refl, sym, ◌∙◌, ap, subst, arith, inl, inr}
+use Rattle.std.specs.Prelude.{Bool, true, false, not, Option, Some, None, IsSome, slice_set, cond, Result, Ok, Err}
+use Rattle.std.specs.Option.{option_map}
 use Rattle.std.proofs.lemmas.Bool.{false≢true}
 use Rattle.std.proofs.lemmas.Bool.Decides.{eqb_tells}
 use Rattle.host_mem.specs.Memory.{Memory}
@@ -14,7 +14,6 @@ use Rattle.cmd_words.specs.declared.command.Command.TheVariants.{Address}
 use Rattle.cmd_words.specs.Command.{index_of}
 use Rattle.cq_desc.specs.declared.direct.DirectDesc.{DirectDesc}
 use Rattle.cq_desc.specs.declared.task.TaskDesc.{TaskDesc}
-use Rattle.cq_regs.specs.State.{Registers}
 use Rattle.cq_regs.specs.Slots.{made_ready, progress_of, without}
 use Rattle.cq_regs.specs.Effects.{completed, moved_on, ticked_in}
 use Rattle.cq_task.specs.declared.slot.DataTask.{DataTask}
@@ -22,11 +21,10 @@ use Rattle.cq_task.specs.declared.slot.DropCause.{DropCause}
 use Rattle.cq_schedule.specs.declared.held.HeldTask.{HeldTask}
 use Rattle.cq_schedule.specs.Held.{Places, held_at, newly_held, with_block}
 use Rattle.cq_schedule.specs.Holding.{HasTasks, is_begun}
-use Rattle.cq_engine.specs.declared.did.Did.{Did}
-use Rattle.cq_engine.specs.declared.did.Did.TheVariants.{Direct, Finished, Idle, Sent, Stopped}
+use Rattle.cq_engine.specs.declared.did.Did.TheVariants.{Finished, Idle, Sent}
 use Rattle.cq_engine.specs.Words.{command_error, data_error, direct_of, execute_of, has_error, is_masked, params_of, poll_of}
 use Rattle.cq_engine.specs.Outcome.{Host, Outcome, heard, judged, responded, stop, stop_of, stopped_with, with_regs, word_in}
-use Rattle.cq_engine.specs.After.{addressed, after_address, after_block, after_close, after_command, after_direct, after_execute, after_params, after_poll, counted, direct_done, direct_ended, direct_heard, dropped, executed, finished, led_on, named, phase_ended, polled}
+use Rattle.cq_engine.specs.After.{addressed, after_address, after_block, after_close, after_command, after_direct, after_execute, after_params, after_poll, direct_done, direct_ended, direct_heard, dropped, executed, finished, led_on, named, phase_ended, polled}
 use Rattle.cq_engine.specs.Holds.{LieIn, LiesIn}
 use Rattle.cq_engine.proofs.Keeping.{has_advanced, has_same, has_without}
 use Rattle.cq_engine.proofs.Lying.{lie_set, lies_counted}

@@ -1,6 +1,6 @@
 -- What each call of the link leads to, by its answer (host interface annex of JESD84-B51; cqhci_irq and
 -- cqhci_finish_mrq of the Linux driver see the same from the other side).
-use Rattle.std.specs.Prelude.{ℕ, ◌==◌, ◌&&◌, not, slice_set, Option, Some, None, Result, Ok, Err, if◌then◌else◌}
+use Rattle.std.specs.Prelude.{ℕ, ◌==◌, ◌&&◌, not, slice_set, Some, None, Result, Ok, Err, if◌then◌else◌}
 use Rattle.std.specs.Option.{option_map}
 use Rattle.bus_link.specs.declared.link.Cause.{Cause}
 use Rattle.bus_link.specs.declared.link.Cause.TheVariants.{Response}
@@ -16,12 +16,10 @@ use Rattle.cq_regs.specs.Slots.{made_ready, without}
 use Rattle.cq_regs.specs.Effects.{completed, moved_on}
 use Rattle.cq_task.specs.declared.slot.DataTask.{DataTask}
 use Rattle.cq_task.specs.declared.slot.DropCause.{DropCause}
-use Rattle.cq_schedule.specs.declared.held.HeldTask.{HeldTask}
 use Rattle.cq_schedule.specs.Held.{held_at, newly_held, with_block}
-use Rattle.cq_engine.specs.declared.did.Did.{Did}
 use Rattle.cq_engine.specs.declared.did.Did.TheVariants.{Sent, Direct, Moved, Finished, Dropped, Stopped}
 use Rattle.cq_engine.specs.Words.{command_error, data_error, direct_of, execute_of, has_error, is_masked, params_of, poll_of}
-use Rattle.cq_engine.specs.Outcome.{Host, Outcome, heard, judged, responded, stop, stopped_with, with_regs, word_in}
+use Rattle.cq_engine.specs.Outcome.{Host, Outcome, heard, judged, responded, stop, with_regs, word_in}
 
 -- the engine stopped for the answer of a command, or goes on with its word
 abbrev pub led_on : Host → Result ℕ Cause → Registers → (Host → ℕ → Outcome) → Outcome

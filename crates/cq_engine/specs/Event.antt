@@ -1,6 +1,6 @@
 -- An event of the engine: what is due, the one call of the link that it makes, and what its answer leads to (host interface
 -- annex of JESD84-B51).
-use Rattle.std.specs.Prelude.{◌≡◌, ℕ, ◌*◌, List, Option, Some, Result, Ok, Err}
+use Rattle.std.specs.Prelude.{◌≡◌, ℕ, ◌*◌, List, Result, Ok, Err}
 use Rattle.std.specs.Bool.{MatchBool}
 use Rattle.std.specs.Option.{IsSomeAnd, option_or}
 use Rattle.storage_model.specs.declared.block.Block.{Block}
@@ -18,7 +18,6 @@ use Rattle.cq_task.specs.declared.slot.DropCause.{DropCause}
 use Rattle.cq_task.specs.declared.slot.SlotTask.{SlotTask}
 use Rattle.cq_task.specs.declared.slot.SlotTask.TheVariants.{Direct, Data}
 use Rattle.cq_task.specs.Meaning.{Means}
-use Rattle.cq_schedule.specs.declared.held.HeldTask.{HeldTask}
 use Rattle.cq_schedule.specs.declared.rules.Due.{Due}
 use Rattle.cq_schedule.specs.declared.rules.Due.TheVariants.{Rest, Block as NextBlock, Close, Address, Serve, Execute, Poll, Tick}
 use Rattle.cq_schedule.specs.Held.{held_at, noted, remembered}

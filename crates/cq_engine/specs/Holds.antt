@@ -1,5 +1,5 @@
 -- What the engine holds between its events.
-use Rattle.std.specs.Prelude.{◌≡◌, ◌<◌, ◌*◌, ℕ, Bool, true, false, IfSome, IsSome}
+use Rattle.std.specs.Prelude.{◌≡◌, ◌<◌, ◌*◌, ℕ, true, IfSome, IsSome}
 use Rattle.host_mem.specs.Memory.{Memory}
 use Rattle.cq_chain.specs.Descriptors.{AreInside, bytes_in}
 use Rattle.cq_regs.specs.State.{Registers}

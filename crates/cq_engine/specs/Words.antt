@@ -1,12 +1,11 @@
 -- What the engine sends and what it writes down of an error (JESD84-B51, annex B; cqhci_prep_task_desc, cqhci_error_irq
 -- and the fields CQHCI_TERRI_ of the Linux driver).
-use Rattle.std.specs.Prelude.{◌≡◌, ℕ, ◌==◌, Bool, true, not, [], ◌∷◌}
+use Rattle.std.specs.Prelude.{ℕ, ◌==◌, Bool, true, not, [], ◌∷◌}
 use Rattle.std.specs.Result.{result_unwrap_or}
 use Rattle.std.specs.Int.RustNames.{bit_and}
 use Rattle.cq_words.specs.Table.{number_in, word_with}
 use Rattle.cmd_words.specs.declared.command.Command.{Command}
 use Rattle.cmd_words.specs.declared.command.Command.TheVariants.{Status, Params, Execute, Other}
-use Rattle.cmd_words.specs.declared.index.TheConstants.{EXECUTE_READ_TASK, EXECUTE_WRITE_TASK}
 use Rattle.cmd_words.specs.declared.status.TheConstants.{ERRORS}
 use Rattle.cmd_words.specs.Argument.{at}
 use Rattle.cmd_words.specs.Command.{decoded}

@@ -1,4 +1,4 @@
-ghost use Rattle.std.specs.Prelude.{◌≡◌, ◌↔◌, IsTrue, true, false, None, Some, IfOk, IsNone, if◌then◌else◌};
+ghost use Rattle.std.specs.Prelude.{◌≡◌, ◌↔◌, true, false, None, Some, IfOk, IsNone, if◌then◌else◌};
 ghost use Rattle.std.specs.Option.{option_or};
 ghost use Rattle.host_mem.specs.Memory.{Memory};
 ghost use Rattle.piece_data.specs.Laws.{HasSameSpace};
@@ -70,17 +70,6 @@ impl Engine {
         ensures none { IsNone result ↔ (regs.now.stopped ≡ false) }
     {
         if regs.is_stopped() { self.cause } else { None }
-    }
-
-    /// Whether the engine holds what an event asks of it.
-    #[cfg(test)]
-    pub(crate) fn holds(&self, regs: &Regs) -> bool
-        ensures { IsTrue result → Holds self.now regs.now }
-    {
-        if regs.is_stopped() && self.cause.is_none() {
-            return false;
-        }
-        self.held.holds_tasks(regs)
     }
 
     /// One event (host interface annex of JESD84-B51): the first of these that is due makes one call of the link at most.

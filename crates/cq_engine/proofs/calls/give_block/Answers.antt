@@ -1,4 +1,4 @@
-use Rattle.std.proofs.Common.{ℕ, List, sym, subst}
+use Rattle.std.proofs.Common.{List, sym, subst}
 use Rattle.cq_chain.specs.declared.pieces.Piece.{Piece}
 use Rattle.cq_chain.specs.Descriptors.{AreInside}
 use Rattle.cq_schedule.specs.Held.{held_at}

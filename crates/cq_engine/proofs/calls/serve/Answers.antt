@@ -1,4 +1,4 @@
-use Rattle.std.proofs.Common.{rules, Err, refl, subst}
+use Rattle.std.proofs.Common.{Err, refl, subst}
 use Rattle.cq_task.specs.declared.list.TaskList.{TaskList}
 use Rattle.cq_task.specs.Meaning.{Means}
 use Rattle.cq_engine.proofs.calls.serve.Goals as goal

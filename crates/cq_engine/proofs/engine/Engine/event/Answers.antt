@@ -1,5 +1,5 @@
-use Rattle.std.proofs.Common.{◌≡◌, ◌⊎◌, true, ℕ, length, refl, sym, ◌∙◌, ap, subst}
-use Rattle.std.specs.Prelude.{Option, IsSome, Some, None}
+use Rattle.std.proofs.Common.{◌≡◌, length, refl, sym, ◌∙◌, ap, subst}
+use Rattle.std.specs.Prelude.{Option, IsSome}
 use Rattle.std.specs.Option.{option_or}
 use Rattle.bus_link.specs.declared.link.Cause.{Cause}
 use Rattle.cq_schedule.specs.Held.{Places, noted, remembered}
@@ -10,7 +10,7 @@ use Rattle.cq_engine.specs.Outcome.{host_of, outcome_of, stop_of}
 use Rattle.cq_engine.proofs.Events.{acts_keeps, caused, holding_is}
 use Rattle.cq_engine.proofs.Keeping.{holds_has}
 use Rattle.cq_engine.proofs.Lying.{lie_noted, lie_remembered, lie_same}
-use Rattle.cq_engine.proofs.Outcomes.{Keeps, Sound}
+use Rattle.cq_engine.proofs.Outcomes.{Keeps}
 use Rattle.cq_engine.proofs.Places.{length-remembered}
 use Rattle.cq_engine.proofs.engine.Engine.event.Given as given
 use Rattle.cq_engine.proofs.engine.Engine.event.Goals as goal

@@ -1,0 +1,8 @@
+pub mod Counts
+pub mod HexNumbers
+pub mod Lengths
+pub mod Letters
+pub mod LineWords
+pub mod Meanings
+pub mod Rises
+pub mod Valid

@@ -1,0 +1,117 @@
+-- Fault texts: what their lines mean together, and the first bad line.
+use Rattle.std.specs.Prelude.{◌≡◌, ◌≢◌, ℕ, ◌+◌, ◌^◌, ◌<◌, ◌≤◌, true, false, List, [], ◌∷◌, ◌++◌, length, All, AllPairs, flat_map}
+use Rattle.storage_model.specs.declared.ends.TextEnd.{TextEnd}
+use Rattle.storage_model.specs.declared.ends.TextEnd.TheVariants.{Bad as BadLine, NoMemory}
+use Rattle.storage_model.specs.declared.faults.ArrayHit.{ArrayHit}
+use Rattle.storage_model.specs.declared.faults.Faults.{Faults}
+use Rattle.storage_model.specs.declared.faults.Hit.{Hit}
+use Rattle.storage_model.specs.declared.faults.Letter.{Letter}
+use Rattle.fault_text.specs.declared.line.FaultLine.{FaultLine}
+use Rattle.fault_text.specs.declared.line.FaultLine.TheVariants.{Ready, Bus, Program, Fetch, Cut, Turn}
+use Rattle.fault_text.specs.Lines.{IsKind, IsLine, line_text}
+
+-- what a line adds to each list of faults
+abbrev pub ready_of : FaultLine → List ℕ
+ready_of (Ready mask) = mask ∷ []
+ready_of _ = []
+
+abbrev pub bus_of : FaultLine → List Hit
+bus_of (Bus n kind) = record { n = n; kind = kind } ∷ []
+bus_of _ = []
+
+abbrev pub array_of : FaultLine → List ArrayHit
+array_of (Program n cut mask) = record { fetch = false; n = n; cut = cut; mask = mask } ∷ []
+array_of (Fetch n) = record { fetch = true; n = n; cut = false; mask = 0 } ∷ []
+array_of _ = []
+
+abbrev pub cuts_of : FaultLine → List ℕ
+cuts_of (Cut n) = n ∷ []
+cuts_of _ = []
+
+abbrev pub letters_of : FaultLine → List Letter
+letters_of (Turn letters) = letters
+letters_of _ = []
+
+-- the faults of lines, each list in the order of the text
+abbrev pub faults_of : List FaultLine → Faults
+faults_of lines = record {
+  ready = flat_map ready_of lines;
+  bus = flat_map bus_of lines;
+  array = flat_map array_of lines;
+  cuts = flat_map cuts_of lines;
+  turns = flat_map letters_of lines;
+}
+
+-- the number of a line of a kind: of the command, of the program or of the fetch
+abbrev pub bus_number : FaultLine → List ℕ
+bus_number (Bus n kind) = n ∷ []
+bus_number _ = []
+
+abbrev pub program_number : FaultLine → List ℕ
+program_number (Program n cut mask) = n ∷ []
+program_number _ = []
+
+abbrev pub fetch_number : FaultLine → List ℕ
+fetch_number (Fetch n) = n ∷ []
+fetch_number _ = []
+
+abbrev pub AreRising : List ℕ → Type 0
+AreRising numbers = AllPairs (λ n later. n < later) numbers
+
+-- lines that one text can have: not more than 4,096, with not more than 65,536 letters, and rising numbers in each kind
+pub record AreWithin (lines : List FaultLine) : Type 0 where
+  pub each : All IsLine lines
+  pub count : length lines ≤ 4096
+  pub letters : length (flat_map letters_of lines) ≤ 65536
+  pub bus : AreRising (flat_map bus_number lines)
+  pub programs : AreRising (flat_map program_number lines)
+  pub fetches : AreRising (flat_map fetch_number lines)
+  pub cuts : AreRising (flat_map cuts_of lines)
+
+-- the text of lines
+abbrev pub texts : List FaultLine → List ℕ
+texts lines = flat_map line_text lines
+
+-- the text means these faults: it is the text of lines that are within the limits, and the faults are theirs
+pub record Means (bytes : List ℕ) (faults : Faults) : Type 0 where
+  pub lines : List FaultLine
+  pub text : bytes ≡ texts lines
+  pub within : AreWithin lines
+  pub meant : faults ≡ faults_of lines
+
+-- the first bad line: good lines stand before it, and no line whose text begins the rest can follow
+pub record IsBadAfter (bytes : List ℕ) (good : List FaultLine) (rest : List ℕ) : Type 0 where
+  pub text : bytes ≡ texts good ++ rest
+  pub within : AreWithin good
+  pub more : rest ≢ []
+  pub bad : (fault : FaultLine) (after : List ℕ) → rest ≡ line_text fault ++ after → ¬ AreWithin (good ++ fault ∷ [])
+
+-- its number, counted from 1
+abbrev pub IsBadAt : List ℕ → ℕ → Type 0
+IsBadAt bytes line = (good : List FaultLine) × (rest : List ℕ) × IsBadAfter bytes good rest × (line ≡ length good + 1)
+
+-- why a fault text is refused: at its first bad line. Want of memory has no cause in the text
+abbrev pub IsRefused : List ℕ → TextEnd → Type 0
+IsRefused bytes (BadLine line) = IsBadAt bytes line
+IsRefused bytes NoMemory = Unit {0}
+
+-- bus faults whose numbers rise
+abbrev pub IsValidHits : List Hit → Type 0
+IsValidHits hits = AllPairs (λ hit later. hit.n < later.n) hits
+
+-- a command's number is from 1 to 2 ^ 32 - 2, a block's from 1 to 1,024
+abbrev pub IsHit : Hit → Type 0
+IsHit hit = (1 ≤ hit.n) × (hit.n ≤ 4294967294) × IsKind hit.kind
+
+-- The numbers are from 1 to 2 ^ 32 - 1 and rise among the fetches and among the programs, and no fetch is cut.
+pub record IsValidArrayHits (hits : List ArrayHit) : Type 0 where
+  pub numbers : All (λ hit. (1 ≤ hit.n) × (hit.n < 2 ^ 32)) hits
+  pub rising : AllPairs (λ hit later. hit.fetch ≡ later.fetch → hit.n < later.n) hits
+  pub uncut : All (λ hit. hit.fetch ≡ true → hit.cut ≡ false) hits
+
+-- faults whose numbers are within their limits and rise
+pub record AreValid (faults : Faults) : Type 0 where
+  pub hits : All IsHit faults.bus
+  pub bus : IsValidHits faults.bus
+  pub array : IsValidArrayHits faults.array
+  pub cuts : AreRising faults.cuts

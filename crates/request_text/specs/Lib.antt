@@ -1,0 +1,4 @@
+pub mod Lines
+pub mod Meaning
+pub mod Requests
+pub mod Settings
