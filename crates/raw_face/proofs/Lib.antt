@@ -5,4 +5,3 @@ pub mod Printing
 pub mod Runs
 pub mod Standing
 pub mod WorkLeft
-pub mod Writing

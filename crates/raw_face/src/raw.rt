@@ -148,6 +148,7 @@ impl Raw {
         }
     }
 
+    // Writes bytes to the memory.
     fn poke<K: Sink>(&mut self, at: u64, bytes: &[u8], out: &mut K) -> Result<(), Halt>
         ensures does { (array : ArrayState) → Does K.took (Poke at bytes.now) (moment self.old array) out.old result (moment self.new array) out.new }
         ensures stands { (array : ArrayState) → Stands self.old array → Stands self.new array }
@@ -156,6 +157,7 @@ impl Raw {
         print_reply(&poke(&mut self.mem, at, bytes), out)
     }
 
+    // Writes a byte `len` times to the memory.
     fn fill<K: Sink>(&mut self, at: u64, len: u32, value: u8, out: &mut K) -> Result<(), Halt>
         requires { 1 ≤ len }
         ensures does { (array : ArrayState) → Does K.took (Fill at len value) (moment self.old array) out.old result (moment self.new array) out.new }
@@ -165,6 +167,7 @@ impl Raw {
         print_reply(&fill(&mut self.mem, at, len, value), out)
     }
 
+    // Shows bytes of the memory.
     fn peek<K: Sink>(&mut self, at: u64, len: u32, out: &mut K) -> Result<(), Halt>
         requires { len ≤ 512 }
         ensures same { self.new ≡ self.old }
@@ -174,6 +177,7 @@ impl Raw {
         print_reply(&peek(&self.mem, at, len), out)
     }
 
+    // Writes a register.
     fn write<K: Sink>(&mut self, reg: u8, value: u32, out: &mut K) -> Result<(), Halt>
         ensures does { (array : ArrayState) → Does K.took (Write reg value) (moment self.old array) out.old result (moment self.new array) out.new }
         ensures stands { (array : ArrayState) → Stands self.old array → Stands self.new array }
@@ -182,6 +186,7 @@ impl Raw {
         print_reply(&write(&mut self.regs, reg, value), out)
     }
 
+    // Shows a register.
     fn read<K: Sink>(&mut self, reg: u8, out: &mut K) -> Result<(), Halt>
         ensures same { self.new ≡ self.old }
         ensures does { (array : ArrayState) → Does K.took (Read reg) (moment self.old array) out.old result (moment self.new array) out.new }
@@ -190,6 +195,7 @@ impl Raw {
         print_reply(&read(&self.regs, reg), out)
     }
 
+    // Shows a sector of the card.
     fn show<A: Array, K: Sink>(
         &mut self,
         sector: u32,
@@ -204,6 +210,7 @@ impl Raw {
         print_reply(&show(&mut self.card, sector, array), out)
     }
 
+    // Discards the queue of the card.
     fn discard<A: Array, K: Sink>(&mut self, array: &mut A, out: &mut K) -> Result<(), Halt>
         requires stands { Stands self.old (A.state array.old) }
         ensures does { Does K.took Discard (moment self.old (A.state array.old)) out.old result (moment self.new (A.state array.new)) out.new }
