@@ -1,0 +1,7 @@
+use Rattle.std.proofs.Common.{rules}
+use Rattle.raw_face.specs.Machine.{zeros}
+use Rattle.raw_face.proofs.raw.memory.Goals as goal
+
+pub returns : goal.returns
+unfolding zeros
+returns c = search rules

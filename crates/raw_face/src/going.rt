@@ -1,0 +1,125 @@
+// The engine's events, up to one after which it does not go on.
+ghost use Rattle.std.specs.Prelude.{◌≡◌, ℕ, ◌<◌, ◌≤◌, IfSome, OnOk, true};
+ghost use Rattle.cq_regs.specs.declared.slots.Progress.TheVariants.{Ready};
+ghost use Rattle.cq_schedule.specs.Held.{same};
+ghost use Rattle.cq_schedule.specs.Order.{first_at};
+ghost use Rattle.cq_engine.specs.Ends.{EventEnds};
+ghost use Rattle.cq_engine.specs.Outcome.{stop_of};
+ghost use Rattle.card_link.specs.Behind.{link_state};
+ghost use Rattle.raw_face.specs.Machine.{Stands, behind_of, moment};
+ghost use Rattle.raw_face.specs.Operation.{Does};
+ghost use Rattle.raw_face.specs.Output.{HasCauses, IsSinkCause};
+ghost use Rattle.raw_face.specs.Reply.{output_of};
+ghost use Rattle.raw_face.specs.Running.{Happens, IsBelow, goes_on, output_after};
+ghost use Rattle.raw_text.specs.declared.op.RawOp.TheVariants.{Go};
+ghost use Rattle.cq_engine.specs.declared.did.Did.TheVariants.{Sent as SentCommand, Stopped as StoppedFor};
+
+use crate::Raw;
+use crate::print::print_reply;
+use crate::reply::Reply;
+use array_edge::Array;
+use bus_link::Cause;
+use cmd_words::Command;
+use cq_engine::Did;
+use cq_regs::{Progress, Regs};
+use io_edge::Sink;
+use raw_lines::RawLine;
+use storage_model::{End, Halt};
+
+/// Lets the engine work until nothing is due, a poll names no task that was sent, or it stops. Prints a line as each slot
+/// ends.
+pub fn go<A: Array, K: Sink>(raw: &mut Raw, array: &mut A, out: &mut K) -> Result<(), Halt>
+    requires stands { Stands raw.old (A.state array.old) }
+    ensures does { Does K.took Go (moment raw.old (A.state array.old)) out.old result (moment raw.new (A.state array.new)) out.new }
+    ensures stands { OnOk result (Stands raw.new (A.state array.new)) }
+    ensures sink { IsSinkCause (K.faults out.old) (K.faults out.new) result }
+{
+    loop {
+        let did = raw.event(array);
+        print_reply(&reply_of(&did), out)?;
+        if !raw.goes_on(&did) {
+            return Ok(());
+        }
+    }
+}
+
+/// What is printed after an event.
+pub fn reply_of(did: &Did) -> Reply
+    ensures { output_of result ≡ output_after did.now }
+{
+    match *did {
+        Did::Direct { slot } => Reply::of(RawLine::Done { slot }),
+        Did::Finished { slot } => Reply::of(RawLine::Done { slot }),
+        Did::Dropped { slot, why } => Reply::of(RawLine::Dropped { slot, cause: why }),
+        Did::Stopped(cause) => reply_of_stop(cause),
+        Did::Idle => Reply::none(),
+        Did::Sent(_) => Reply::none(),
+        Did::Moved { .. } => Reply::none(),
+    }
+}
+
+// What is printed after a stop. No fault befalls the bus.
+fn reply_of_stop(cause: Cause) -> Reply
+    ensures { output_of result ≡ output_after (StoppedFor cause) }
+{
+    match cause {
+        Cause::Response { word, slot } => Reply::of(RawLine::Stopped {
+            slot,
+            response: word,
+        }),
+        Cause::Dark => Reply::ending(End::Dead),
+        Cause::Bus { .. } => Reply::none(),
+    }
+}
+
+/// Whether the engine goes on after an event.
+pub fn goes_on(did: &Did, regs: &Regs) -> bool
+    ensures value { result ≡ goes_on did.now regs.now }
+    ensures below { IsBelow did.now regs.now }
+{
+    match did {
+        Did::Idle => false,
+        Did::Stopped(_) => false,
+        Did::Sent(command) => goes_on_after(command, regs),
+        Did::Direct { .. } => true,
+        Did::Moved { .. } => true,
+        Did::Finished { .. } => true,
+        Did::Dropped { .. } => true,
+    }
+}
+
+// Whether it goes on after a command: after a poll only where that named a task.
+fn goes_on_after(command: &Command, regs: &Regs) -> bool
+    ensures value { result ≡ goes_on (SentCommand command.now) regs.now }
+    ensures below { IsBelow (SentCommand command.now) regs.now }
+{
+    match command {
+        Command::Status { queue: true, .. } => first_ready(regs).is_some(),
+        _ => true,
+    }
+}
+
+// The first ready slot in order of ringing.
+fn first_ready(regs: &Regs) -> Option<u8>
+    ensures value { result ≡ first_at Ready regs.now.ring }
+    ensures below { IfSome result (λ slot. slot < 32) }
+{
+    for k in 0..32u8 {
+        let Some(slot) = regs.rung(k) else {
+            return None;
+        };
+        if is_ready(regs.progress(slot)) {
+            return Some(slot);
+        }
+    }
+    None
+}
+
+fn is_ready(progress: Progress) -> bool
+    ensures { result ≡ same progress Ready }
+{
+    match progress {
+        Progress::Ready => true,
+        _ => false,
+    }
+}
