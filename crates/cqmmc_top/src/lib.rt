@@ -8,6 +8,7 @@ mod moves;
 mod opening;
 mod prepare;
 mod print;
+mod raw;
 mod refusal;
 mod run;
 mod serve;
