@@ -17,4 +17,6 @@ mod texts;
 pub use command::{new_pages, run_command};
 
 #[cfg(test)]
+mod raw_tests;
+#[cfg(test)]
 mod tests;
