@@ -83,27 +83,33 @@ module _ {L M : Type 0} (seen : L → M) (made : L → Call → L → Type 0) (m
   does_mapped host memory memory' outcome Tick d = (silent_mapped outcome _ d.0, d.1)
   does_mapped host memory memory' outcome (Serve slot) d =
       (record { meaning = d.0.meaning; means = d.0.means; serves = serves_mapped host slot outcome d.0.meaning d.0.serves }, d.1)
-  does_mapped host memory memory' outcome (Address slot) d =
-      (some_mapped (held_at host.held slot)
-      (λ held. Exchanges made old new (StartSector held.task.desc.start) outcome (after_address host slot held.task.desc))
-      (λ held. Exchanges made' (seen old) (seen new) (StartSector held.task.desc.start) outcome (after_address host slot held.task.desc))
-      (λ held e. exchanges_mapped _ outcome _ e) d.0, d.1)
-  does_mapped host memory memory' outcome (Execute slot) d =
-      (some_mapped (held_at host.held slot)
-      (λ held. Exchanges made old new (execute_of slot held.task.desc) outcome (after_execute host slot held.task.desc))
-      (λ held. Exchanges made' (seen old) (seen new) (execute_of slot held.task.desc) outcome (after_execute host slot held.task.desc))
-      (λ held e. exchanges_mapped _ outcome _ e) d.0, d.1)
+  does_mapped host memory memory' outcome (Address slot) d = (
+    some_mapped (held_at host.held slot)
+        (λ held. Exchanges made old new (StartSector held.task.desc.start) outcome (after_address host slot held.task.desc))
+        (λ held. Exchanges made' (seen old) (seen new) (StartSector held.task.desc.start) outcome (after_address host slot held.task.desc))
+        (λ held e. exchanges_mapped _ outcome _ e) d.0,
+    d.1,
+  )
+  does_mapped host memory memory' outcome (Execute slot) d = (
+    some_mapped (held_at host.held slot)
+        (λ held. Exchanges made old new (execute_of slot held.task.desc) outcome (after_execute host slot held.task.desc))
+        (λ held. Exchanges made' (seen old) (seen new) (execute_of slot held.task.desc) outcome (after_execute host slot held.task.desc))
+        (λ held e. exchanges_mapped _ outcome _ e) d.0,
+    d.1,
+  )
   does_mapped host memory memory' outcome Poll d = (exchanges_mapped _ outcome _ d.0, d.1)
   does_mapped host memory memory' outcome (NextBlock slot k) d =
       some_mapped (held_at host.held slot)
       (λ held. MovesBlock made old new host memory memory' slot k outcome held.task)
       (λ held. MovesBlock made' (seen old) (seen new) host memory memory' slot k outcome held.task)
       (λ held e. moves_mapped host memory memory' slot k outcome held.task held.task.desc.read e) d
-  does_mapped host memory memory' outcome (Close slot) d =
-      (some_mapped (held_at host.held slot)
-      (λ held. Closes made old new outcome (after_close host slot held.task.desc))
-      (λ held. Closes made' (seen old) (seen new) outcome (after_close host slot held.task.desc))
-      (λ held e. closes_mapped outcome _ e) d.0, d.1)
+  does_mapped host memory memory' outcome (Close slot) d = (
+    some_mapped (held_at host.held slot)
+        (λ held. Closes made old new outcome (after_close host slot held.task.desc))
+        (λ held. Closes made' (seen old) (seen new) outcome (after_close host slot held.task.desc))
+        (λ held e. closes_mapped outcome _ e) d.0,
+    d.1,
+  )
 
   pub event_mapped : (engine engine' : Holding) (regs regs' : Registers) (memory memory' : Memory) (did : Did)
       → Event made old new engine engine' regs regs' memory memory' did

@@ -29,18 +29,26 @@ pub shown_after : {K : Type 0} (took : K → List ℕ → K → Type 0) → Join
 shown_after took both old mid new first output (Err SinkFailed) taken shows =
     subst (λ text. TookPart took old text new) (sym (text_after first output.lines output.end))
     (took_part-after both old mid new (lines_text first) (output_text output) taken shows)
-shown_after took both old mid new first output (Ok done) taken shows =
-    (subst (λ text. took old text new) (sym (text_after first output.lines output.end))
-    (both.join old mid new (lines_text first) (output_text output) taken shows.0), shows.1)
-shown_after took both old mid new first output (Err OpenFault) taken shows =
-    (subst (λ text. took old text new) (sym (text_after first output.lines output.end))
-    (both.join old mid new (lines_text first) (output_text output) taken shows.0), shows.1)
-shown_after took both old mid new first output (Err PowerGone) taken shows =
-    (subst (λ text. took old text new) (sym (text_after first output.lines output.end))
-    (both.join old mid new (lines_text first) (output_text output) taken shows.0), shows.1)
-shown_after took both old mid new first output (Err BadImage) taken shows =
-    (subst (λ text. took old text new) (sym (text_after first output.lines output.end))
-    (both.join old mid new (lines_text first) (output_text output) taken shows.0), shows.1)
+shown_after took both old mid new first output (Ok done) taken shows = (
+  subst (λ text. took old text new) (sym (text_after first output.lines output.end))
+      (both.join old mid new (lines_text first) (output_text output) taken shows.0),
+  shows.1,
+)
+shown_after took both old mid new first output (Err OpenFault) taken shows = (
+  subst (λ text. took old text new) (sym (text_after first output.lines output.end))
+      (both.join old mid new (lines_text first) (output_text output) taken shows.0),
+  shows.1,
+)
+shown_after took both old mid new first output (Err PowerGone) taken shows = (
+  subst (λ text. took old text new) (sym (text_after first output.lines output.end))
+      (both.join old mid new (lines_text first) (output_text output) taken shows.0),
+  shows.1,
+)
+shown_after took both old mid new first output (Err BadImage) taken shows = (
+  subst (λ text. took old text new) (sym (text_after first output.lines output.end))
+      (both.join old mid new (lines_text first) (output_text output) taken shows.0),
+  shows.1,
+)
 
 -- the sink failed within lines that were to be followed by an end
 pub part_before : {K : Type 0} (took : K → List ℕ → K → Type 0) (old new : K) (text : List ℕ) (end : Option End)

@@ -82,3 +82,8 @@ pub record HasCauses (old new : ArrayState) (output : Output) : Type 0 where
 pub record IsSinkCause (old new : Count) (result : Result (Unit {0}) Halt) : Type 0 where
   pub later : Later old new
   pub failed : IsErrOf result SinkFailed → Rose old new
+
+-- nothing tells of a fault, and the script goes on
+pub record IsQuiet (output : Output) : Type 0 where
+  pub lines : list_any tells_fault output.lines ≡ false
+  pub end : output.end ≡ None

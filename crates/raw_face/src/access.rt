@@ -1,10 +1,13 @@
 // Accesses of the host's memory and of the registers.
 ghost use Rattle.std.specs.Prelude.{◌≡◌, ◌⊎◌, ◌≤◌, ◌<◌, ◌+◌, ◌^◌, length, replicate, OnOk, OnErr, IsOk, ◌↔◌};
 ghost use Rattle.host_mem.specs.Memory.{HasRange, bytes_of, with_bytes};
+ghost use Rattle.cq_engine.specs.Holds.{Holds};
+ghost use Rattle.cq_engine.specs.Outcome.{Holding};
 ghost use Rattle.cq_regs.specs.Effects.{written};
 ghost use Rattle.cq_regs.specs.Table.{row_at};
 ghost use Rattle.std.specs.Option.{option_map_or};
 ghost use Rattle.raw_face.specs.Access.{IsPeekedIn, IsPokedIn, read_output, write_output};
+ghost use Rattle.raw_face.specs.Output.{IsQuiet};
 ghost use Rattle.raw_face.specs.Reply.{output_of};
 
 use crate::reply::Reply;
@@ -17,7 +20,8 @@ const MOST_PEEKED: usize = 512;
 
 /// Writes bytes to the memory.
 pub fn poke(mem: &mut HostMem, at: u64, bytes: &[u8]) -> Reply
-    ensures { IsPokedIn at bytes.now mem.old (output_of result) mem.new }
+    ensures quiet { IsQuiet (output_of result) }
+    ensures poked { IsPokedIn at bytes.now mem.old (output_of result) mem.new }
 {
     match mem.copy_in(at, bytes) {
         Ok(()) => Reply::none(),
@@ -28,7 +32,8 @@ pub fn poke(mem: &mut HostMem, at: u64, bytes: &[u8]) -> Reply
 /// Writes a byte `len` times to the memory.
 pub fn fill(mem: &mut HostMem, at: u64, len: u32, value: u8) -> Reply
     requires { 1 ≤ len }
-    ensures { IsPokedIn at (replicate len value) mem.old (output_of result) mem.new }
+    ensures quiet { IsQuiet (output_of result) }
+    ensures poked { IsPokedIn at (replicate len value) mem.old (output_of result) mem.new }
 {
     match fill_range(mem, at, len, value) {
         Ok(()) => Reply::none(),
@@ -65,7 +70,8 @@ fn check_range(mem: &HostMem, at: u64, len: u32) -> Result<(), OutOfMemorySpace>
 /// Shows bytes of the memory.
 pub fn peek(mem: &HostMem, at: u64, len: u32) -> Reply
     requires { len ≤ 512 }
-    ensures { IsPeekedIn at len mem.now (output_of result) }
+    ensures quiet { IsQuiet (output_of result) }
+    ensures peeked { IsPeekedIn at len mem.now (output_of result) }
 {
     let mut room = [0; MOST_PEEKED];
     peek_into(mem, at, &mut room[..len as usize])
@@ -74,7 +80,8 @@ pub fn peek(mem: &HostMem, at: u64, len: u32) -> Reply
 // Shows as many bytes as there is room for.
 fn peek_into(mem: &HostMem, at: u64, room: &mut [u8]) -> Reply
     requires { length room.old ≤ 512 }
-    ensures { IsPeekedIn at (length room.old) mem.now (output_of result) }
+    ensures quiet { IsQuiet (output_of result) }
+    ensures peeked { IsPeekedIn at (length room.old) mem.now (output_of result) }
 {
     match mem.copy_out(at, room) {
         Ok(()) => Reply::of(RawLine::Memory {
@@ -86,7 +93,9 @@ fn peek_into(mem: &HostMem, at: u64, room: &mut [u8]) -> Reply
 
 /// Writes a register.
 pub fn write(regs: &mut Regs, reg: u8, value: u32) -> Reply
+    ensures holds { (engine : Holding) → Holds engine regs.old → Holds engine regs.new }
     ensures after { regs.new ≡ option_map_or (λ row. written regs.old row value) (row_at reg) regs.old }
+    ensures quiet { IsQuiet (output_of result) }
     ensures shown { output_of result ≡ write_output reg }
 {
     match regs.write(reg, value) {
@@ -97,7 +106,8 @@ pub fn write(regs: &mut Regs, reg: u8, value: u32) -> Reply
 
 /// Shows a register.
 pub fn read(regs: &Regs, reg: u8) -> Reply
-    ensures { output_of result ≡ read_output regs.now reg }
+    ensures quiet { IsQuiet (output_of result) }
+    ensures shown { output_of result ≡ read_output regs.now reg }
 {
     match regs.read(reg) {
         Ok(value) => Reply::of(RawLine::Register { reg, value }),

@@ -135,19 +135,80 @@ impl Raw {
         ensures sink { IsSinkCause (K.faults out.old) (K.faults out.new) result }
     {
         match op {
-            RawOp::Poke { at, bytes } => {
-                print_reply(&poke(&mut self.mem, *at, bytes.as_slice()), out)
-            }
-            RawOp::Fill { at, len, value } => {
-                print_reply(&fill(&mut self.mem, *at, *len, *value), out)
-            }
-            RawOp::Peek { at, len } => print_reply(&peek(&self.mem, *at, *len), out),
-            RawOp::Write { reg, value } => print_reply(&write(&mut self.regs, *reg, *value), out),
-            RawOp::Read { reg } => print_reply(&read(&self.regs, *reg), out),
+            RawOp::Poke { at, bytes } => self.poke(*at, bytes.as_slice(), out),
+            RawOp::Fill { at, len, value } => self.fill(*at, *len, *value, out),
+            RawOp::Peek { at, len } => self.peek(*at, *len, out),
+            RawOp::Write { reg, value } => self.write(*reg, *value, out),
+            RawOp::Read { reg } => self.read(*reg, out),
             RawOp::Go => go(self, array, out),
-            RawOp::Show { sector } => print_reply(&show(&mut self.card, *sector, array), out),
-            RawOp::Discard => print_reply(&discard(&mut self.card, array), out),
+            RawOp::Show { sector } => self.show(*sector, array, out),
+            RawOp::Discard => self.discard(array, out),
         }
+    }
+
+    fn poke<K: Sink>(&mut self, at: u64, bytes: &[u8], out: &mut K) -> Result<(), Halt>
+        ensures does { (array : ArrayState) → Does K.took (Poke at bytes.now) (moment self.old array) out.old result (moment self.new array) out.new }
+        ensures stands { (array : ArrayState) → Stands self.old array → Stands self.new array }
+        ensures sink { IsSinkCause (K.faults out.old) (K.faults out.new) result }
+    {
+        print_reply(&poke(&mut self.mem, at, bytes), out)
+    }
+
+    fn fill<K: Sink>(&mut self, at: u64, len: u32, value: u8, out: &mut K) -> Result<(), Halt>
+        requires { 1 ≤ len }
+        ensures does { (array : ArrayState) → Does K.took (Fill at len value) (moment self.old array) out.old result (moment self.new array) out.new }
+        ensures stands { (array : ArrayState) → Stands self.old array → Stands self.new array }
+        ensures sink { IsSinkCause (K.faults out.old) (K.faults out.new) result }
+    {
+        print_reply(&fill(&mut self.mem, at, len, value), out)
+    }
+
+    fn peek<K: Sink>(&mut self, at: u64, len: u32, out: &mut K) -> Result<(), Halt>
+        requires { len ≤ 512 }
+        ensures same { self.new ≡ self.old }
+        ensures does { (array : ArrayState) → Does K.took (Peek at len) (moment self.old array) out.old result (moment self.new array) out.new }
+        ensures sink { IsSinkCause (K.faults out.old) (K.faults out.new) result }
+    {
+        print_reply(&peek(&self.mem, at, len), out)
+    }
+
+    fn write<K: Sink>(&mut self, reg: u8, value: u32, out: &mut K) -> Result<(), Halt>
+        ensures does { (array : ArrayState) → Does K.took (Write reg value) (moment self.old array) out.old result (moment self.new array) out.new }
+        ensures stands { (array : ArrayState) → Stands self.old array → Stands self.new array }
+        ensures sink { IsSinkCause (K.faults out.old) (K.faults out.new) result }
+    {
+        print_reply(&write(&mut self.regs, reg, value), out)
+    }
+
+    fn read<K: Sink>(&mut self, reg: u8, out: &mut K) -> Result<(), Halt>
+        ensures same { self.new ≡ self.old }
+        ensures does { (array : ArrayState) → Does K.took (Read reg) (moment self.old array) out.old result (moment self.new array) out.new }
+        ensures sink { IsSinkCause (K.faults out.old) (K.faults out.new) result }
+    {
+        print_reply(&read(&self.regs, reg), out)
+    }
+
+    fn show<A: Array, K: Sink>(
+        &mut self,
+        sector: u32,
+        array: &mut A,
+        out: &mut K,
+    ) -> Result<(), Halt>
+        requires stands { Stands self.old (A.state array.old) }
+        ensures does { Does K.took (Show sector) (moment self.old (A.state array.old)) out.old result (moment self.new (A.state array.new)) out.new }
+        ensures stands { OnOk result (Stands self.new (A.state array.new)) }
+        ensures sink { IsSinkCause (K.faults out.old) (K.faults out.new) result }
+    {
+        print_reply(&show(&mut self.card, sector, array), out)
+    }
+
+    fn discard<A: Array, K: Sink>(&mut self, array: &mut A, out: &mut K) -> Result<(), Halt>
+        requires stands { Stands self.old (A.state array.old) }
+        ensures does { Does K.took Discard (moment self.old (A.state array.old)) out.old result (moment self.new (A.state array.new)) out.new }
+        ensures stands { OnOk result (Stands self.new (A.state array.new)) }
+        ensures sink { IsSinkCause (K.faults out.old) (K.faults out.new) result }
+    {
+        print_reply(&discard(&mut self.card, array), out)
     }
 
     /// Flushes the card's cache, and prints how the script ends: `off ok`, `off fault` where the array failed, or

@@ -1,7 +1,9 @@
 // The card's sectors, its queue and its cache, without the engine.
-ghost use Rattle.std.specs.Prelude.{◌≡◌, ◌≤◌, OnOk};
+ghost use Rattle.std.specs.Prelude.{◌≡◌, ◌≢◌, ◌≤◌, Some, true, OnOk};
 ghost use Rattle.array_edge.specs.Array.{ArrayState};
 ghost use Rattle.card_store.specs.Store.{HasSector, IsOpen};
+ghost use Rattle.raw_face.specs.Output.{HasCauses};
+ghost use Rattle.storage_model.specs.declared.trace.End.TheVariants.{Dead};
 ghost use Rattle.raw_face.specs.Sector.{HasFlushed, HasShown, IsDiscarded, IsShown, sector_output};
 ghost use Rattle.raw_face.specs.Reply.{output_of};
 
@@ -22,7 +24,10 @@ const DISCARD: Command = Command::Manage {
 /// Shows a sector as a read would see it.
 pub fn show<A: Array>(card: &mut Card, sector: u32, array: &mut A) -> Reply
     requires open { IsOpen card.old.store (A.state array.old) }
+    requires powered { (A.state array.old).powered ≡ true }
     ensures open { IsOpen card.new.store (A.state array.new) }
+    ensures on { (output_of result).end ≢ Some Dead → (A.state array.new).powered ≡ true }
+    ensures causes { HasCauses (A.state array.old) (A.state array.new) (output_of result) }
     ensures shown { IsShown sector card.old (A.state array.old) (output_of result) card.new (A.state array.new) }
 {
     if sector >= card.store().sectors() {
@@ -34,8 +39,11 @@ pub fn show<A: Array>(card: &mut Card, sector: u32, array: &mut A) -> Reply
 // Shows a sector of the card.
 fn read_sector<A: Array>(card: &mut Card, sector: u32, array: &mut A) -> Reply
     requires open { IsOpen card.old.store (A.state array.old) }
+    requires powered { (A.state array.old).powered ≡ true }
     requires sector { HasSector card.old.store sector }
     ensures open { IsOpen card.new.store (A.state array.new) }
+    ensures on { (output_of result).end ≢ Some Dead → (A.state array.new).powered ≡ true }
+    ensures causes { HasCauses (A.state array.old) (A.state array.new) (output_of result) }
     ensures shown { HasShown sector card.old (A.state array.old) (output_of result) card.new (A.state array.new) }
 {
     let mut value = Block([0; 512]);
@@ -57,7 +65,10 @@ fn sector_reply(value: Block, end: Result<(), StoreEnd>) -> Reply
 /// Discards the whole queue of the card.
 pub fn discard<A: Array>(card: &mut Card, array: &mut A) -> Reply
     requires open { IsOpen card.old.store (A.state array.old) }
+    requires powered { (A.state array.old).powered ≡ true }
     ensures open { IsOpen card.new.store (A.state array.new) }
+    ensures on { (output_of result).end ≢ Some Dead → (A.state array.new).powered ≡ true }
+    ensures causes { HasCauses (A.state array.old) (A.state array.new) (output_of result) }
     ensures discarded { IsDiscarded card.old (A.state array.old) (output_of result) card.new (A.state array.new) }
 {
     match card.exchange(&DISCARD, 0, array) {
@@ -69,7 +80,10 @@ pub fn discard<A: Array>(card: &mut Card, array: &mut A) -> Reply
 /// Flushes the cache of the card, and ends the script.
 pub fn flush<A: Array>(card: &mut Card, array: &mut A) -> Reply
     requires open { IsOpen card.old.store (A.state array.old) }
+    requires powered { (A.state array.old).powered ≡ true }
     ensures open { IsOpen card.new.store (A.state array.new) }
+    ensures on { (output_of result).end ≢ Some Dead → (A.state array.new).powered ≡ true }
+    ensures causes { HasCauses (A.state array.old) (A.state array.new) (output_of result) }
     ensures flushed { HasFlushed card.old (A.state array.old) (output_of result) card.new (A.state array.new) }
 {
     match card.flush(array) {

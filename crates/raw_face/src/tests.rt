@@ -236,3 +236,69 @@ fn scripts_print_their_lines(rt: HostRuntime) -> Result<(), Fail> {
     }
     Ok(())
 }
+
+fn failing_fetch(n: u32) -> ArrayHit {
+    ArrayHit {
+        fetch: true,
+        n,
+        cut: false,
+        mask: 0,
+    }
+}
+
+fn cut_program(n: u32) -> ArrayHit {
+    ArrayHit {
+        fetch: false,
+        n,
+        cut: true,
+        mask: 0,
+    }
+}
+
+// Runs a script over an image of 8 sectors with a fault, and compares what it prints.
+fn prints(
+    alloc: Global,
+    script: &str,
+    hit: ArrayHit,
+    fails: Vec<u32>,
+    shown: &str,
+) -> Result<Option<Halt>, Fail> {
+    let mut array = image(alloc, 8, &[hit])?;
+    let mut out = MemSink::with_room(alloc, 4096, fails)?;
+    let end = run(alloc, script, &mut array, &mut out)?;
+    if out.bytes() != shown.as_bytes() {
+        return Ok(Some(Halt::BadImage));
+    }
+    Ok(end.err())
+}
+
+const FORCED: &str = "\
+poke 20010000 6f000100000000002300000200000020
+w 20 20010000
+w 08 1
+w 28 1
+go
+r 28
+";
+
+#[test]
+fn faults_and_cuts_are_told(rt: HostRuntime) -> Result<(), Fail> {
+    let alloc = rt.alloc();
+    let none = Vec::new(alloc);
+    let unread = "card 8 31 64\nunread\ns fill 00\noutside\noff ok\n";
+    let end = prints(
+        alloc,
+        "show 3\nshow 3\nshow 8\n",
+        failing_fetch(3),
+        none,
+        unread,
+    )?;
+    assert!(rt; end.is_none());
+    let dark = "card 8 31 64\noff dead\n";
+    let end = prints(alloc, FORCED, cut_program(1), Vec::new(alloc), dark)?;
+    assert!(rt; end == Some(Halt::PowerGone));
+    let fails = vec![in alloc; 2]?;
+    let end = prints(alloc, FORCED, cut_program(9), fails, "card 8 31 64\n")?;
+    assert!(rt; end == Some(Halt::SinkFailed));
+    Ok(())
+}

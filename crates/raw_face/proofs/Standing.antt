@@ -1,0 +1,46 @@
+-- What accesses leave: the machine stands, and no count rose.
+use Rattle.std.proofs.Common.{◌≡◌, ◌<◌, ◌⊎◌, ℕ, List, length, Bool, true, false, Option, Some, None, refl, sym, ◌∙◌, ap, subst, arith, inl, inr}
+use Rattle.std.specs.Prelude.{IsSome}
+use Rattle.std.specs.List.{list_any}
+use Rattle.std.proofs.lemmas.Bool.{false≢true}
+use Rattle.array_edge.specs.Array.{ArrayState}
+use Rattle.cq_engine.proofs.Lying.{lie_same}
+use Rattle.host_mem.specs.Memory.{Memory, with_bytes}
+use Rattle.host_mem.proofs.MemoryLaws.{with_bytes-base, with_bytes-length}
+use Rattle.piece_data.specs.Laws.{HasSameSpace}
+use Rattle.storage_model.specs.declared.trace.End.{End}
+use Rattle.storage_model.specs.declared.trace.End.TheVariants.{Dead, Fault}
+use Rattle.raw_face.specs.Access.{IsPokedIn}
+use Rattle.raw_face.specs.Machine.{Machine, Stands}
+use Rattle.raw_face.specs.Operation.{with_memory}
+use Rattle.raw_face.specs.Output.{HasCauses, IsQuiet, Output, tells_fault}
+use Rattle.raw_face.proofs.Runs.{later_same}
+
+-- nothing rose
+pub quiet_causes : (array : ArrayState) (output : Output) → IsQuiet output → HasCauses array array output
+quiet_causes array output q = record {
+  faults = later_same array.faults;
+  cuts = later_same array.cuts;
+  flash = λ any. absurd (false≢true (sym q.lines ∙ any));
+  fault = λ e. absurd (goes_not Fault (sym q.end ∙ e));
+  dead = λ e. absurd (goes_not Dead (sym q.end ∙ e));
+} where
+  goes_not : (end : End) → None ≡ Some end → ⊥
+  goes_not end e = cc e
+
+-- bytes that were written, or weren't, leave the addresses of the memory
+space_poked : (address : ℕ) (bytes : List ℕ) (memory memory' : Memory) (output : Output) → IsPokedIn address bytes memory output memory' → HasSameSpace memory memory'
+space_poked address bytes memory memory' output (inl inside) =
+    let P : Memory → Type 0 = λ m. HasSameSpace memory m in
+    subst P (sym inside.1.0) (record { base = with_bytes-base memory address bytes; size = with_bytes-length memory address bytes inside.0 })
+space_poked address bytes memory memory' output (inr outside) =
+    let P : Memory → Type 0 = λ m. HasSameSpace memory m in subst P (sym outside.1.0) (record { base = refl; size = refl })
+
+pub stands_poked : (machine : Machine) (array : ArrayState) (address : ℕ) (bytes : List ℕ) (memory' : Memory) (output : Output)
+    → IsPokedIn address bytes machine.memory output memory' → Stands machine array → Stands (with_memory machine memory') array
+stands_poked machine array address bytes memory' output poked s = record {
+  is_open = s.is_open;
+  powered = s.powered;
+  holds = s.holds;
+  lie = lie_same machine.memory memory' machine.engine.held (space_poked address bytes machine.memory memory' output poked) s.lie;
+}

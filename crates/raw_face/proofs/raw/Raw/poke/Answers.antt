@@ -1,0 +1,12 @@
+use Rattle.std.proofs.Common.{replicate, subst, sym}
+use Rattle.raw_face.specs.Machine.{Machine, Stands}
+use Rattle.raw_face.specs.Reply.{output_of}
+use Rattle.raw_face.specs.contracts.raw.Raw.{the_view}
+use Rattle.raw_face.proofs.Standing.{stands_poked}
+use Rattle.raw_face.proofs.raw.Raw.poke.Goals as goal
+
+pub returns-clause-stands : goal.returns-clause-stands
+returns-clause-stands g c = λ array stands.
+    let P : Machine → Type 0 = λ m. Stands m array in
+    stands_poked (the_view c.self.inside) array c.args.at c.args.bytes.now c.poke.new.mem (output_of c.poke.result) c.poke.ensures.poked
+    (subst P (sym c.self.view_is) stands)
