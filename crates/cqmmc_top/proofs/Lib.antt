@@ -3,10 +3,12 @@ pub mod Leaving
 pub mod Listed
 pub mod Making
 pub mod Names
+pub mod Playing
 pub mod Printing
 pub mod Ranges
 pub mod Reading
 pub mod Running
+pub mod ScriptRead
 pub mod Serving
 pub mod TextsRead
 pub mod Writing

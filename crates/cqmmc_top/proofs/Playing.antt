@@ -1,0 +1,1 @@
+-- Operations one after the other, and the causes of how they end.
