@@ -41,7 +41,7 @@ pub record IsBegun (old : ArrayState) (begin : Moment) : Type 0 where
 abbrev pub card_text : Machine → List ℕ
 card_text machine = item_text (Card (sectors machine.card) 31 (Some 64))
 
-module _ {K : Type 0} (took : K → List ℕ → K → Type 0) (faults_of : K → Count) where
+module _ {K : Type 0} (took : K → List ℕ → K → Type 0) where
   -- A script from a moment on: each operation in turn, with its lines, and then the flush, with the last line. It ends before
   -- where an operation ends it.
   pub data Plays : List RawOp → Moment → K → Result (Unit {0}) Halt → Moment → K → Type 0 where
@@ -50,6 +50,7 @@ module _ {K : Type 0} (took : K → List ℕ → K → Type 0) (faults_of : K �
     halts : {op : RawOp} {ops : List RawOp} {old new : Moment} {out out' : K} {halt : Halt} → Does took op old out (Err halt) new out' → Plays (op ∷ ops) old out (Err halt) new out'
     finishes : {old new : Moment} {out out' : K} {result : Result (Unit {0}) Halt} → Finishes took old out result new out' → Plays [] old out result new out'
 
+module _ {K : Type 0} (took : K → List ℕ → K → Type 0) (faults_of : K → Count) where
   -- a script wasn't begun: by a cause, and the image shows what it showed
   pub record IsRefusedScript (script : Option (List ℕ)) (first first' : Count) (old new : ArrayState) (out : K) (status : ℕ) (out' : K) : Type 0 where
     pub refusal : Refusal
@@ -78,7 +79,7 @@ module _ {K : Type 0} (took : K → List ℕ → K → Type 0) (faults_of : K �
     pub card : took out (card_text begin.machine) middle
     pub end : Machine
     pub result : Result (Unit {0}) Halt
-    pub plays : Plays ops begin middle result (moment end new) out'
+    pub plays : Plays took ops begin middle result (moment end new) out'
     pub is : status ≡ run_status result
     pub cause : HasCause (faults_of out) (faults_of out') old new result
 
