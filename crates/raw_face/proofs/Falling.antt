@@ -1,6 +1,6 @@
 -- Each event after which the engine goes on leaves less to do.
-use Rattle.std.proofs.Common.{◌≡◌, ◌≢◌, ◌<◌, ◌≤◌, ◌+◌, ◌-◌, ◌*◌, ◌^◌, ◌⊎◌, ◌==◌, ◌&&◌, ℕ, length, refl, sym, ◌∙◌, ap, subst, arith, inl, inr}
-use Rattle.std.specs.Prelude.{◌||◌, Bool, true, false, not, nat_lt, Option, Some, None, IsSome, is_some, IfSome, slice_set, cond, Result, Ok, Err, List, [], ◌∷◌, map, take}
+use Rattle.std.proofs.Common.{◌≡◌, ◌≢◌, ◌<◌, ◌≤◌, ◌+◌, ◌-◌, ◌==◌, ◌&&◌, ℕ, length, refl, sym, ◌∙◌, ap, subst, arith, inl, inr}
+use Rattle.std.specs.Prelude.{Bool, true, false, not, nat_lt, Option, Some, None, is_some, IfSome, slice_set, cond, Result, Ok, Err, List, [], ◌∷◌, map, take}
 use Rattle.std.specs.Bool.{MatchBool}
 use Rattle.std.specs.List.{find}
 use Rattle.std.specs.Option.{IsSomeAnd, MatchOption, option_map, option_map_or}
@@ -41,14 +41,13 @@ use Rattle.cq_schedule.specs.Held.{Places, held_at, newly_held, noted, remembere
 use Rattle.cq_schedule.specs.Meaning.{HasItsSlot, IsDue, IsDueThen, before_serving, list_of, next_of_phase, rests}
 use Rattle.cq_schedule.specs.Order.{blocks_of, first_at, first_high, moved_of, order_of}
 use Rattle.piece_data.specs.Data.{block_of}
-use Rattle.cq_schedule.proofs.Progresses.{same-true}
 use Rattle.cq_engine.specs.declared.did.Did.{Did}
-use Rattle.cq_engine.specs.declared.did.Did.TheVariants.{Direct, Finished, Idle as NothingDone, Moved, Sent as SentCommand, Stopped}
-use Rattle.cq_engine.specs.Words.{command_error, data_error, direct_of, execute_of, has_error, is_masked, params_of, poll_of}
+use Rattle.cq_engine.specs.declared.did.Did.TheVariants.{Finished, Sent as SentCommand}
+use Rattle.cq_engine.specs.Words.{command_error, direct_of, execute_of, has_error, is_masked, params_of}
 use Rattle.cq_engine.specs.Outcome.{Holding, Host, Outcome, heard, judged, responded, stop, stopped_with, with_regs, word_in}
-use Rattle.cq_engine.specs.After.{addressed, after_address, after_block, after_close, after_command, after_direct, after_execute, after_params, after_poll, counted, direct_done, direct_ended, direct_heard, dropped, executed, finished, led_on, named, phase_ended, polled}
+use Rattle.cq_engine.specs.After.{addressed, after_address, after_block, after_close, after_command, after_execute, after_params, direct_done, direct_ended, direct_heard, executed, finished, led_on, named, phase_ended, polled}
 use Rattle.cq_engine.specs.declared.words.TheConstants.{QUEUE_RCA}
-use Rattle.cq_engine.specs.Event.{Acts, Closes, Does, Event, Exchanges, Gives, Serves, Takes}
+use Rattle.cq_engine.specs.Event.{Does, Event, Gives, Serves, Takes}
 use Rattle.cq_engine.proofs.Places.{length-remembered, set-other, set-same}
 use Rattle.cq_engine.proofs.SlotLaws.{advanced-other, completes, without-other, without-same}
 use Rattle.raw_face.specs.Running.{IsBelow, goes_on}

@@ -1,5 +1,5 @@
 -- A byte written many times, one after the other.
-use Rattle.std.proofs.Common.{◌≡◌, ℕ, zero, suc, ◌+◌, ◌-◌, ◌<◌, ◌≤◌, List, [], ◌∷◌, ◌++◌, length, take, drop, set, replicate, refl, sym, ap, ◌∙◌, arith, add-one, drop-cons, subst}
+use Rattle.std.proofs.Common.{◌≡◌, ℕ, zero, suc, ◌+◌, ◌-◌, ◌<◌, ◌≤◌, List, ◌∷◌, ◌++◌, length, take, drop, set, replicate, refl, sym, ap, ◌∙◌, arith, add-one, drop-cons}
 use Rattle.std.proofs.lemmas.List.{length-replicate, length-take, set-append_right}
 use Rattle.host_mem.specs.Memory.{HasByte, HasRange, Memory, with_byte, with_bytes}
 use Rattle.piece_data.proofs.Ranges.{with_bytes-none}

@@ -1,5 +1,5 @@
 -- An event over a link is one over what the link is seen as.
-use Rattle.std.proofs.Common.{◌≡◌, ◌*◌, ℕ, ap, inl, inr, refl, sym, subst}
+use Rattle.std.proofs.Common.{◌≡◌, ℕ, ap}
 use Rattle.std.specs.Prelude.{Bool, true, false, List, Option, Some, None, Result, Ok, Err}
 use Rattle.std.specs.Bool.{MatchBool}
 use Rattle.std.specs.Option.{IsSomeAnd}
@@ -11,7 +11,7 @@ use Rattle.cq_chain.specs.declared.pieces.Piece.{Piece}
 use Rattle.cq_engine.specs.After.{after_address, after_block, after_close, after_execute}
 use Rattle.cmd_words.specs.declared.command.Command.TheVariants.{Address as StartSector}
 use Rattle.cq_engine.specs.Words.{execute_of}
-use Rattle.cq_engine.specs.Event.{Acts, Closes, Does, Event, Exchanges, Gives, IsServed, MovesBlock, Serves, Silent, Takes}
+use Rattle.cq_engine.specs.Event.{Closes, Does, Event, Exchanges, Gives, MovesBlock, Serves, Silent, Takes}
 use Rattle.cq_engine.specs.Outcome.{Holding, Host, Outcome}
 use Rattle.cq_engine.specs.declared.did.Did.{Did}
 use Rattle.cq_regs.specs.State.{Registers}

@@ -1,5 +1,5 @@
 -- Texts that were taken one after the other.
-use Rattle.std.proofs.Common.{◌≡◌, ℕ, List, [], ◌∷◌, ◌++◌, Option, None, Some, Result, Ok, Err, flat_map, refl, sym, ◌∙◌, ap, subst, append_assoc}
+use Rattle.std.proofs.Common.{◌≡◌, ℕ, List, ◌++◌, Option, None, Some, Result, Ok, Err, sym, ◌∙◌, ap, subst, append_assoc}
 use Rattle.std.proofs.lemmas.List.Concat.{flat_map-append}
 use Rattle.io_edge.specs.Sink.{Joins, TookPart}
 use Rattle.io_edge.proofs.Writes.{took_part-after, took_part-longer}
@@ -10,7 +10,7 @@ use Rattle.storage_model.specs.declared.ends.Halt.TheVariants.{SinkFailed, OpenF
 use Rattle.storage_model.specs.declared.trace.End.{End}
 use Rattle.storage_model.specs.declared.trace.Item.TheVariants.{Off}
 use Rattle.trace_text.specs.Trace.{item_text}
-use Rattle.raw_face.specs.Output.{Output, Shows, ending, halt_of, lines_text, output_text, with_end}
+use Rattle.raw_face.specs.Output.{Output, Shows, lines_text, output_text, with_end}
 
 -- a text after others
 pub text_after : (first lines : List RawLine) (end : Option End)

@@ -1,13 +1,14 @@
 -- A run of the engine, event by event.
-use Rattle.std.proofs.Common.{◌≡◌, ◌≢◌, ◌<◌, ◌≤◌, ◌⊎◌, ℕ, List, [], ◌∷◌, ◌++◌, Option, None, Some, Result, Ok, Err, Bool, true, false, refl, sym, ◌∙◌, ap, subst, arith, inl, inr, append_assoc}
-use Rattle.std.specs.Prelude.{◌||◌, flat_map, MatchOption, OnOk, OnErr, IsErrOf}
+use Rattle.std.proofs.Common.{◌≡◌, ◌≢◌, ◌≤◌, ◌+◌, ◌⊎◌, ℕ, List, [], ◌∷◌, ◌++◌, Option, None, Some, Result, Ok, Err, Bool, true, false, refl, sym, ◌∙◌, ap, subst, arith, inl, inr}
+use Rattle.std.specs.Prelude.{◌||◌, cond, count_by}
 use Rattle.std.specs.List.{list_any}
 use Rattle.std.proofs.lemmas.Bool.{false≢true}
 use Rattle.std.proofs.lemmas.List.{append-nil}
 use Rattle.std.proofs.lemmas.List.Concat.{flat_map-append}
 use Rattle.std.proofs.lemmas.List.Folds.{list_any-append}
+use Rattle.std.proofs.lemmas.List.Sums.{sum_by-append}
 use Rattle.array_edge.specs.Array.{ArrayState}
-use Rattle.bus_link.specs.Link.{TellsFlash, tells_flash}
+use Rattle.bus_link.specs.Link.{tells_flash}
 use Rattle.bus_link.specs.declared.link.Cause.{Cause}
 use Rattle.bus_link.specs.declared.link.Cause.TheVariants.{Response, Bus, Dark as NoPower}
 use Rattle.card_link.specs.Behind.{link_state}
@@ -48,12 +49,16 @@ either : (a b : Bool) → (a || b) ≡ true → (a ≡ true) ⊎ (b ≡ true)
 either true b e = inl refl
 either false b e = inr e
 
+count_both : (lines others : List RawLine) → count_by tells_fault (lines ++ others) ≡ count_by tells_fault lines + count_by tells_fault others
+count_both lines others = sum_by-append (λ (line : RawLine). cond (tells_fault line) 1 0) lines others
+
 -- what rose while lines were printed, and then while others were
-pub causes_both : (a b c : ArrayState) (first : List RawLine) (output : Output) → HasCauses a b (shown first) → HasCauses b c output
-    → HasCauses a c (after first output)
-causes_both a b c first output h k = record {
+pub causes_both : (a b c : ArrayState) (first : List RawLine) (output : Output) → count_by tells_fault first ≡ 0 → HasCauses a b (shown first)
+    → HasCauses b c output → HasCauses a c (after first output)
+causes_both a b c first output none h k = record {
   faults = later_both a.faults b.faults c.faults h.faults k.faults;
   cuts = later_both a.cuts b.cuts c.cuts h.cuts k.cuts;
+  once = let all = count_both first output.lines in omega (arith, all, none, k.once);
   flash = λ any.
       elim (either (list_any tells_fault first) (list_any tells_fault output.lines) (sym (list_any-append tells_fault first output.lines) ∙ any)) [
         | inl one ↦ rose_then a.faults b.faults c.faults (h.flash one) k.faults
@@ -67,6 +72,7 @@ pub no_causes : (array : ArrayState) → HasCauses array array (shown [])
 no_causes array = record {
   faults = later_same array.faults;
   cuts = later_same array.cuts;
+  once = omega arith;
   flash = λ any. absurd (false≢true any);
   fault = λ e. absurd (cc e);
   dead = λ e. absurd (cc e);
@@ -124,11 +130,37 @@ event_dead old new (Finished slot) ends on e = absurd (cc e)
 event_dead old new (Dropped slot why) ends on e = absurd (cc e)
 event_dead old new (Stopped cause) ends on e = stop_dead old new cause ends on e
 
+single_few : (b : Bool) → count_by (λ (x : Bool). x) (b ∷ []) ≤ 1
+single_few true = omega arith
+single_few false = omega arith
+
+lines_few : (did : Did) → count_by tells_fault (lines_of did) ≤ 1
+lines_few Idle = omega arith
+lines_few (Sent command) = omega arith
+lines_few (Direct slot) = omega arith
+lines_few (Moved slot) = omega arith
+lines_few (Finished slot) = omega arith
+lines_few (Dropped slot why) = omega arith
+lines_few (Stopped (Response word slot)) = single_few (tells_flash word)
+lines_few (Stopped (Bus kind slot)) = omega arith
+lines_few (Stopped NoPower) = omega arith
+
+-- an event after which the engine goes on tells of no fault
+going_quiet : (did : Did) (regs : Registers) → goes_on did regs ≡ true → count_by tells_fault (lines_of did) ≡ 0
+going_quiet Idle regs goes = absurd (false≢true goes)
+going_quiet (Sent command) regs goes = refl
+going_quiet (Direct slot) regs goes = refl
+going_quiet (Moved slot) regs goes = refl
+going_quiet (Finished slot) regs goes = refl
+going_quiet (Dropped slot why) regs goes = refl
+going_quiet (Stopped cause) regs goes = absurd (false≢true goes)
+
 pub event_causes : (old new : Moment) (did : Did) → EventEnds (link_state (behind_of old)) (link_state (behind_of new)) (stop_of did)
     → old.array.powered ≡ true → HasCauses old.array new.array (output_after did)
 event_causes old new did ends on = record {
   faults = ends.flash;
   cuts = ends.cuts;
+  once = lines_few did;
   flash = event_flash old new did ends;
   fault = λ e. absurd (no_fault did e);
   dead = event_dead old new did ends on;
@@ -156,6 +188,9 @@ halted_over (Finished slot) regs halt e = absurd (cc e)
 halted_over (Dropped slot why) regs halt e = absurd (cc e)
 halted_over (Stopped cause) regs halt e = refl
 
+sum_of : (m n : ℕ) → m ≡ 0 → n ≡ 0 → m + n ≡ 0
+sum_of m n e f = omega arith
+
 -- one event more
 goes_more : (old between new : Moment) (steps : List Step) (did : Did) → GoesOn old steps between → Happens between did new
     → goes_on did new.machine.regs ≡ true → GoesOn old (steps ++ record { did = did; after = new } ∷ []) new
@@ -182,10 +217,11 @@ module _ {K : Type 0} (took : K → List ℕ → K → Type 0) where
     pub steps : List Step
     pub goes : GoesOn old steps now
     pub taken : took sink (lines_text (steps_lines steps)) sink'
+    pub quiet : count_by tells_fault (steps_lines steps) ≡ 0
     pub causes : HasCauses old.array now.array (shown (steps_lines steps))
 
   pub run_begun : (old : Moment) (sink : K) → took sink [] sink → HasRun old sink old sink
-  run_begun old sink nothing = record { steps = []; goes = refl; taken = nothing; causes = no_causes old.array }
+  run_begun old sink nothing = record { steps = []; goes = refl; taken = nothing; quiet = refl; causes = no_causes old.array }
 
   -- an event, and how its lines were taken
   pub record Follows (between : Moment) (sink : K) (did : Did) (result : Result (Unit {0}) Halt) (new : Moment) (sink' : K) : Type 0 where
@@ -218,8 +254,10 @@ module _ {K : Type 0} (took : K → List ℕ → K → Type 0) where
         goes = goes_more old between new run.steps did run.goes f.event goes;
         taken = subst P (sym (lines_more run.steps did new))
             (subst R e (shown_after took both sink mid sink' lines (output_after did) (Ok done) run.taken f.shows).0);
+        quiet = ap (count_by tells_fault) (lines_more run.steps did new) ∙ count_both lines (lines_of did)
+            ∙ sum_of (count_by tells_fault lines) (count_by tells_fault (lines_of did)) run.quiet (going_quiet did new.machine.regs goes);
         causes = subst Q (sym (lines_more run.steps did new))
-            (subst S e (causes_both old.array between.array new.array lines (output_after did) run.causes f.causes));
+            (subst S e (causes_both old.array between.array new.array lines (output_after did) run.quiet run.causes f.causes));
       }
 
   -- the last event
@@ -230,7 +268,7 @@ module _ {K : Type 0} (took : K → List ℕ → K → Type 0) where
     output = after (steps_lines run.steps) (output_after did);
     makes = record { steps = run.steps; between = between; last = did; before = run.goes; event = f.event; over = over; shown = refl };
     shows = shown_after took both sink mid sink' (steps_lines run.steps) (output_after did) result run.taken f.shows;
-    causes = causes_both old.array between.array new.array (steps_lines run.steps) (output_after did) run.causes f.causes;
+    causes = causes_both old.array between.array new.array (steps_lines run.steps) (output_after did) run.quiet run.causes f.causes;
   }
 
   -- where the script ends with the last event

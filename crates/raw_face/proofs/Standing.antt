@@ -1,11 +1,9 @@
 -- What accesses leave: the machine stands, and no count rose.
-use Rattle.std.proofs.Common.{◌≡◌, ◌<◌, ◌⊎◌, ℕ, List, length, Bool, true, false, Option, Some, None, refl, sym, ◌∙◌, ap, subst, arith, inl, inr}
-use Rattle.std.specs.Prelude.{IsSome}
-use Rattle.std.specs.List.{list_any}
+use Rattle.std.proofs.Common.{◌≡◌, ℕ, List, Some, None, refl, sym, ◌∙◌, subst, arith, inl, inr}
 use Rattle.std.proofs.lemmas.Bool.{false≢true}
 use Rattle.array_edge.specs.Array.{ArrayState}
 use Rattle.cq_engine.proofs.Lying.{lie_same}
-use Rattle.host_mem.specs.Memory.{Memory, with_bytes}
+use Rattle.host_mem.specs.Memory.{Memory}
 use Rattle.host_mem.proofs.MemoryLaws.{with_bytes-base, with_bytes-length}
 use Rattle.piece_data.specs.Laws.{HasSameSpace}
 use Rattle.storage_model.specs.declared.trace.End.{End}
@@ -13,7 +11,7 @@ use Rattle.storage_model.specs.declared.trace.End.TheVariants.{Dead, Fault}
 use Rattle.raw_face.specs.Access.{IsPokedIn}
 use Rattle.raw_face.specs.Machine.{Machine, Stands}
 use Rattle.raw_face.specs.Operation.{with_memory}
-use Rattle.raw_face.specs.Output.{HasCauses, IsQuiet, Output, tells_fault}
+use Rattle.raw_face.specs.Output.{HasCauses, IsQuiet, Output}
 use Rattle.raw_face.proofs.Runs.{later_same}
 
 -- nothing rose
@@ -21,6 +19,7 @@ pub quiet_causes : (array : ArrayState) (output : Output) → IsQuiet output →
 quiet_causes array output q = record {
   faults = later_same array.faults;
   cuts = later_same array.cuts;
+  once = omega (arith, q.none);
   flash = λ any. absurd (false≢true (sym q.lines ∙ any));
   fault = λ e. absurd (goes_not Fault (sym q.end ∙ e));
   dead = λ e. absurd (goes_not Dead (sym q.end ∙ e));

@@ -1,7 +1,7 @@
 -- How much the engine has left to do, as a number: the sum over the 32 slots, by how far each is and by the blocks of its task.
-use Rattle.std.proofs.Common.{◌≡◌, ◌≢◌, ◌<◌, ◌≤◌, ◌+◌, ◌-◌, ◌⊎◌, ℕ, zero, suc, length, refl, sym, ◌∙◌, ap, subst, arith, zero-add, inl, inr, ⊎_elim}
-use Rattle.std.specs.Prelude.{Bool, true, false, Option, Some, None, IsSome, cond, ◌==◌, List, slice_set}
-use Rattle.std.specs.Option.{option_map, option_map_or}
+use Rattle.std.proofs.Common.{◌≡◌, ◌≢◌, ◌<◌, ◌≤◌, ◌+◌, ◌-◌, ℕ, zero, suc, refl, sym, ◌∙◌, ap, subst, arith, zero-add, inl, inr, ⊎_elim}
+use Rattle.std.specs.Prelude.{true, Option, Some, None, cond, List}
+use Rattle.std.specs.Option.{option_map_or}
 use Rattle.std.proofs.lemmas.Bool.{eq-eqb, cases_lt}
 use Rattle.std.proofs.lemmas.Bool.Decides.{eqb_tells}
 use Rattle.std.proofs.lemmas.List.FromFn.{get_or-map-range_with_len}

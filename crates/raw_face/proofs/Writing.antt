@@ -1,7 +1,7 @@
 -- A write of a register leaves the engine what it has to hold: no slot is begun by it, and a clear leaves none.
-use Rattle.std.proofs.Common.{◌≡◌, ◌≢◌, ◌<◌, ◌⊎◌, ◌==◌, ◌&&◌, ℕ, List, [], ◌∷◌, Bool, true, false, Option, Some, None, cond, refl, sym, ◌∙◌, ap, subst, inl, inr}
-use Rattle.std.specs.Prelude.{not, IfSome, IsSome}
-use Rattle.std.specs.List.{filter, find}
+use Rattle.std.proofs.Common.{◌≡◌, ◌==◌, ◌&&◌, ℕ, List, [], ◌∷◌, Bool, true, false, Option, Some, None, cond, refl, sym, ◌∙◌, ap, subst}
+use Rattle.std.specs.Prelude.{not, IfSome}
+use Rattle.std.specs.List.{find}
 use Rattle.std.specs.Option.{IsSomeAnd, option_map_or}
 use Rattle.std.proofs.lemmas.Bool.{eqb-true, false≢true}
 use Rattle.cq_engine.specs.Holds.{Holds}

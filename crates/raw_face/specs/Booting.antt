@@ -1,5 +1,5 @@
 -- The machine switched on.
-use Rattle.std.specs.Prelude.{◌≡◌, ◌⊎◌, ℕ, ◌+◌, ◌≤◌, true, List, [], Some, IfSome, Result, Ok, Err, IsErrOf}
+use Rattle.std.specs.Prelude.{◌≡◌, ◌⊎◌, ℕ, ◌+◌, ◌≤◌, true, List, Some, Result, Ok, Err, IsErrOf}
 use Rattle.array_edge.specs.Array.{ArrayState}
 use Rattle.card_core.specs.Card.{CardState, idle_card, sectors, set_up}
 use Rattle.cq_engine.specs.Outcome.{holds_nothing}

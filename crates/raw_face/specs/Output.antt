@@ -1,5 +1,5 @@
 -- What is printed, and how a script ends.
-use Rattle.std.specs.Prelude.{◌≡◌, ℕ, Bool, true, false, List, [], ◌∷◌, ◌++◌, flat_map, Option, Some, None, Result, Ok, Err, IsErrOf}
+use Rattle.std.specs.Prelude.{◌≡◌, ◌≤◌, ℕ, count_by, Bool, true, false, List, [], ◌∷◌, ◌++◌, flat_map, Option, Some, None, Result, Ok, Err, IsErrOf}
 use Rattle.std.specs.List.{list_any}
 use Rattle.array_edge.specs.Array.{ArrayState}
 use Rattle.bus_link.specs.Link.{tells_flash}
@@ -12,7 +12,6 @@ use Rattle.storage_model.specs.declared.ends.Halt.{Halt}
 use Rattle.storage_model.specs.declared.ends.Halt.TheVariants.{SinkFailed, OpenFault, PowerGone, BadImage}
 use Rattle.storage_model.specs.declared.trace.End.{End}
 use Rattle.storage_model.specs.declared.trace.End.TheVariants.{Good, Fault, Dead, Image}
-use Rattle.storage_model.specs.declared.trace.Item.{Item}
 use Rattle.storage_model.specs.declared.trace.Item.TheVariants.{Off}
 use Rattle.trace_text.specs.Trace.{item_text}
 
@@ -70,10 +69,12 @@ tells_fault (Stopped slot response) = tells_flash response
 tells_fault Unread = true
 tells_fault _ = false
 
--- counts don't fall, and what tells of a fault of the flash or of a cut is printed only where its count rose
+-- counts don't fall; one line at most tells of a fault of the flash; and what tells of it or of a cut is printed only where
+-- its count rose
 pub record HasCauses (old new : ArrayState) (output : Output) : Type 0 where
   pub faults : Later old.faults new.faults
   pub cuts : Later old.cuts new.cuts
+  pub once : count_by tells_fault output.lines ≤ 1
   pub flash : list_any tells_fault output.lines ≡ true → Rose old.faults new.faults
   pub fault : output.end ≡ Some Fault → Rose old.faults new.faults
   pub dead : output.end ≡ Some Dead → Rose old.cuts new.cuts
@@ -86,4 +87,5 @@ pub record IsSinkCause (old new : Count) (result : Result (Unit {0}) Halt) : Typ
 -- nothing tells of a fault, and the script goes on
 pub record IsQuiet (output : Output) : Type 0 where
   pub lines : list_any tells_fault output.lines ≡ false
+  pub none : count_by tells_fault output.lines ≡ 0
   pub end : output.end ≡ None

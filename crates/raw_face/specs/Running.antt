@@ -1,5 +1,5 @@
 -- The engine let run: its events in a row, and the line of each slot that ends (host interface annex of JESD84-B51).
-use Rattle.std.specs.Prelude.{◌≡◌, ◌≢◌, ℕ, ◌||◌, Bool, true, false, not, List, [], ◌∷◌, ◌++◌, flat_map, ◌<◌, is_some, IfSome, Option, Some, None, Result, Err}
+use Rattle.std.specs.Prelude.{◌≡◌, ◌≢◌, ◌||◌, Bool, true, false, not, List, [], ◌∷◌, ◌++◌, flat_map, ◌<◌, is_some, IfSome, Option, Some, None, Result, Err}
 use Rattle.bus_link.specs.Link.{is_poll}
 use Rattle.bus_link.specs.declared.link.Cause.TheVariants.{Response, Dark as NoPower}
 use Rattle.card_link.specs.Made.{CardMade}

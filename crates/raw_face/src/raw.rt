@@ -78,6 +78,7 @@ impl Raw {
     pub fn start(alloc: Global) -> Result<Raw, NoMemory>
         ensures off { IfOk result (λ raw. raw ≡ switched_off raw.card.store) }
         ensures closed { IfOk result (λ raw. raw.card.store.known ≡ None) }
+        ensures empty { IfOk result (λ raw. raw.card.store.cache ≡ record { lines = []; last = 0; room = 64 }) }
     {
         Ok(Raw {
             card: Card::start(alloc, DEPTH, LINES, false)?,
@@ -99,6 +100,7 @@ impl Raw {
     pub fn boot<A: Array, K: Sink>(&mut self, array: &mut A, out: &mut K) -> Result<(), Halt>
         ensures on { OnOk result (self.new ≡ switched_on self.old self.new) }
         ensures stands { OnOk result (Stands self.new (A.state array.new)) }
+        ensures empty { OnOk result (self.new.card.store.cache ≡ record self.old.card.store.cache { lines = []; last = 0 }) }
         ensures contents { OnOk result (IfSome (shown_by (A.state array.new)) (λ shown. StoreStands (record { base = shown; pend = [] }) self.new.card.store (A.state array.new))) }
         ensures printed { Boots K.took out.old self.new.card result out.new }
         ensures shown { shown_by (A.state array.new) ≡ shown_by (A.state array.old) }
@@ -265,6 +267,7 @@ fn open<A: Array>(card: &mut Card, array: &mut A) -> Result<(), Halt>
     ensures open { OnOk result (IsOpen card.new.store (A.state array.new)) }
     ensures powered { OnOk result ((A.state array.new).powered ≡ true) }
     ensures ok { OnOk result (card.new ≡ record (idle_card card.old.depth card.old.lines card.old.through card.new.store) { csd = set_up card.old (sectors card.new) }) }
+    ensures empty { OnOk result (card.new.store.cache ≡ record card.old.store.cache { lines = []; last = 0 }) }
     ensures contents { OnOk result (IfSome (shown_by (A.state array.new)) (λ shown. StoreStands (record { base = shown; pend = [] }) card.new.store (A.state array.new))) }
     ensures shown { shown_by (A.state array.new) ≡ shown_by (A.state array.old) }
     ensures image { ShowsImage (A.state array.old) → ShowsImage (A.state array.new) }

@@ -1,13 +1,9 @@
-use Rattle.std.proofs.Common.{◌≡◌, ◌≢◌, ◌∙◌, Ok, Err, Result, Option, None, true, false, refl, subst, sym}
+use Rattle.std.proofs.Common.{Ok, sym}
 use Rattle.std.proofs.lemmas.Result.{err_from_is_err_and}
 use Rattle.io_edge.specs.Sink.{Joins}
 use Rattle.card_link.specs.Made.{CardMade}
-use Rattle.storage_model.specs.declared.ends.Halt.{Halt}
-use Rattle.storage_model.specs.declared.ends.Halt.TheVariants.{SinkFailed}
-use Rattle.raw_face.specs.Machine.{Moment, behind_of, moment}
-use Rattle.raw_face.specs.Output.{Output, Shows}
+use Rattle.raw_face.specs.Machine.{behind_of, moment}
 use Rattle.raw_face.specs.Reply.{output_of}
-use Rattle.raw_face.specs.Running.{goes_on, output_after}
 use Rattle.raw_face.proofs.Falling.{event_down}
 use Rattle.raw_face.proofs.Runs.{Follows, ended_ok, failed, follows, later_both, over_by, run_more, run_over}
 use Rattle.raw_face.proofs.going.go.Goals as goal

@@ -10,6 +10,7 @@ invariant-loop-opening g l = record {
   faults : Later (g.A.Array.state l.initial.array).faults (g.A.Array.state l.array).faults;
   cuts : Later (g.A.Array.state l.initial.array).cuts (g.A.Array.state l.array).cuts;
   many : ((g.A.Array.state l.initial.array).cuts.value + l.opening ≤ (g.A.Array.state l.array).cuts.value) ⊎ ((g.A.Array.state l.array).cuts.stands ≡ true);
+  room : l.card.store.cache.room ≡ l.initial.card.store.cache.room;
   depth : l.card.depth ≡ l.initial.card.depth;
   lines : l.card.lines ≡ l.initial.card.lines;
   through : l.card.through ≡ l.initial.card.through;

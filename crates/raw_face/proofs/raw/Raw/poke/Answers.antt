@@ -1,4 +1,4 @@
-use Rattle.std.proofs.Common.{replicate, subst, sym}
+use Rattle.std.proofs.Common.{subst, sym}
 use Rattle.raw_face.specs.Machine.{Machine, Stands}
 use Rattle.raw_face.specs.Reply.{output_of}
 use Rattle.raw_face.specs.contracts.raw.Raw.{the_view}
