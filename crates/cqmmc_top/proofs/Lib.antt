@@ -1,3 +1,4 @@
+pub mod Beginning
 pub mod Forms
 pub mod Leaving
 pub mod Listed

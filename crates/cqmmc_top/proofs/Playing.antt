@@ -61,6 +61,17 @@ no_cause a s = record {
   image = λ is. cc;
 }
 
+pub booted : (a b : Count) (s t : ArrayState) → Later s.faults t.faults → Later s.cuts t.cuts → Later a b → HasCause a b s t (Ok tt)
+booted a b s t faults cuts sink = record {
+  sink = sink;
+  faults = faults;
+  cuts = cuts;
+  sink_failed = λ is. absurd (cc);
+  open_fault = λ is. absurd (cc);
+  power_gone = λ is. absurd (cc);
+  image = λ is. cc;
+}
+
 -- which end a script ends with
 fault_end : (end : Option End) → Err OpenFault ≡ halt_of end → end ≡ Some Fault
 fault_end None is = absurd (cc)

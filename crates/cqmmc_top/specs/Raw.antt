@@ -13,7 +13,7 @@ use Rattle.raw_face.specs.Machine.{Machine, Moment, moment, switched_off}
 use Rattle.raw_face.specs.Operation.{Does, Finishes}
 use Rattle.raw_text.specs.declared.op.RawOp.{RawOp}
 use Rattle.trace_text.specs.Trace.{item_text}
-use Rattle.cqmmc_top.specs.Opened.{OpeningRefused}
+use Rattle.cqmmc_top.specs.Opened.{HasSectors, OpeningRefused}
 use Rattle.cqmmc_top.specs.Print.{HasCause, run_status}
 use Rattle.cqmmc_top.specs.Refusal.{Says}
 use Rattle.cqmmc_top.specs.Texts.{IsScriptOf, ScriptRefused}
@@ -27,19 +27,21 @@ pub data IsScriptRefused (script : Option (List ℕ)) (first first' : Count) (ol
   by_memory : {ops : List RawOp} → IsScriptOf script ops → new ≡ old → IsScriptRefused script first first' old new NoMemory
   by_opening : {refusal : Refusal} {ops : List RawOp} → IsScriptOf script ops → OpeningRefused old new refusal → IsScriptRefused script first first' old new refusal
 
--- A machine that was switched on over an array: registers at reset, and a card set up whose store stands for what the image
--- shows, which is what it showed before.
+-- A machine that was switched on over an array: registers at reset, and a card set up, of as many sectors as the image, whose
+-- store stands for what the image shows, which is what it showed before.
 pub record IsBegun (old : ArrayState) (begin : Moment) : Type 0 where
   pub store : Store
   pub machine : begin.machine ≡ switched_on (switched_off store) begin.machine
   pub contents : IfSome (shown_by begin.array) (λ base. StoreStands (record { base = base; pend = [] }) begin.machine.card.store begin.array)
+  pub sectors : HasSectors old (sectors begin.machine.card)
   pub shown : shown_by begin.array ≡ shown_by old
+  pub kept : ShowsImage old → ShowsImage begin.array
   pub faults : Later old.faults begin.array.faults
   pub cuts : Later old.cuts begin.array.cuts
 
--- the first line: the sectors, 31 tasks and 64 cache lines
-abbrev pub card_text : Machine → List ℕ
-card_text machine = item_text (Card (sectors machine.card) 31 (Some 64))
+-- the first line: so many sectors, 31 tasks and 64 cache lines
+abbrev pub card_text : ℕ → List ℕ
+card_text count = item_text (Card count 31 (Some 64))
 
 module _ {K : Type 0} (took : K → List ℕ → K → Type 0) where
   -- A script from a moment on: each operation in turn, with its lines, and then the flush, with the last line. It ends before
@@ -63,11 +65,12 @@ module _ {K : Type 0} (took : K → List ℕ → K → Type 0) (faults_of : K �
   pub record IsUntold (script : Option (List ℕ)) (old new : ArrayState) (out : K) (status : ℕ) (out' : K) : Type 0 where
     pub ops : List RawOp
     pub means : IsScriptOf script ops
-    pub begin : Machine
-    pub begun : IsBegun old (moment begin new)
     pub is : status ≡ 5
-    pub part : TookPart took out (card_text begin) out'
+    pub sectors : ℕ
+    pub part : TookPart took out (card_text sectors) out'
     pub rose : Rose (faults_of out) (faults_of out')
+    pub shown : shown_by new ≡ shown_by old
+    pub kept : ShowsImage old → ShowsImage new
 
   -- The operations were carried out one after the other, from a machine switched on. The status says how that ended.
   pub record IsPlayed (script : Option (List ℕ)) (old new : ArrayState) (out : K) (status : ℕ) (out' : K) : Type 0 where
@@ -76,7 +79,7 @@ module _ {K : Type 0} (took : K → List ℕ → K → Type 0) (faults_of : K �
     pub begin : Moment
     pub begun : IsBegun old begin
     pub middle : K
-    pub card : took out (card_text begin.machine) middle
+    pub card : took out (card_text (sectors begin.machine.card)) middle
     pub end : Machine
     pub result : Result (Unit {0}) Halt
     pub plays : Plays took ops begin middle result (moment end new) out'
