@@ -18,13 +18,11 @@ use Rattle.cqmmc_top.specs.Print.{HasCause, run_status}
 use Rattle.cqmmc_top.specs.Refusal.{Says}
 use Rattle.cqmmc_top.specs.Texts.{IsScriptOf, ScriptRefused}
 use Rattle.cqmmc_top.specs.declared.refusal.Refusal.{Refusal}
-use Rattle.cqmmc_top.specs.declared.refusal.Refusal.TheVariants.{NoMemory}
 
--- Why a script isn't begun, in the order in which it is found out: by its text, by want of memory, or by the opening. Only
+-- Why a script isn't begun, in the order in which it is found out: by its text or by want of memory, or by the opening. Only
 -- the opening touches a page.
 pub data IsScriptRefused (script : Option (List ℕ)) (first first' : Count) (old new : ArrayState) : Refusal → Type 0 where
   by_script : {refusal : Refusal} → ScriptRefused script first first' refusal → new ≡ old → IsScriptRefused script first first' old new refusal
-  by_memory : {ops : List RawOp} → IsScriptOf script ops → new ≡ old → IsScriptRefused script first first' old new NoMemory
   by_opening : {refusal : Refusal} {ops : List RawOp} → IsScriptOf script ops → OpeningRefused old new refusal → IsScriptRefused script first first' old new refusal
 
 -- A machine that was switched on over an array: registers at reset, and a card set up, of as many sectors as the image, whose
