@@ -312,6 +312,7 @@ fn bad_scripts_touch_nothing(rt: HostRuntime) -> Result<(), Fail> {
         assert_eq!(rt; answer.0, 3, "of {script}");
         assert_eq!(rt; out.bytes(), text.as_bytes(), "of {script}");
         let mut array = answer.1;
+        assert_eq!(rt; array.pages(), 16);
         let mut block = Block([0; 512]);
         assert_eq!(rt; array.fetch(0, &mut block), Err(ArrayEnd::PowerLost));
         array.power_on();
