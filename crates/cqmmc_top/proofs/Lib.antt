@@ -1,12 +1,15 @@
+pub mod Beginning
 pub mod Forms
 pub mod Leaving
 pub mod Listed
 pub mod Making
 pub mod Names
+pub mod Playing
 pub mod Printing
 pub mod Ranges
 pub mod Reading
 pub mod Running
+pub mod ScriptRead
 pub mod Serving
 pub mod TextsRead
 pub mod Writing

@@ -9,7 +9,7 @@ use Rattle.script_text.proofs.FaultMeanings.{bad_front as bad_fault_front}
 use Rattle.cqmmc_top.specs.Texts.{WasRead, HasNoFaults}
 
 -- the whole text was read, or more than the limit
-whole_or_long : (most : ℕ) (left bytes : List ℕ) → bytes ≡ take (suc most) left → (bytes ≡ left) ⊎ (most < length bytes)
+pub whole_or_long : (most : ℕ) (left bytes : List ℕ) → bytes ≡ take (suc most) left → (bytes ≡ left) ⊎ (most < length bytes)
 whole_or_long most left bytes is = elim (le_or_lt (length left) most) [
   | inl short ↦ inl (is ∙ take_all (suc most) left (omega arith))
   | inr long ↦ inr (let n : length bytes ≡ suc most = ap length is ∙ (length-take (suc most) left ∙ omega arith) in omega arith)
@@ -18,7 +18,7 @@ whole_or_long most left bytes is = elim (le_or_lt (length left) most) [
     le_or_lt : (a b : ℕ) → (a ≤ b) ⊎ (b < a)
     le_or_lt a b = grind arith
 
-front_and_rest : (n : ℕ) (left bytes : List ℕ) → bytes ≡ take n left → left ≡ bytes ++ drop n left
+pub front_and_rest : (n : ℕ) (left bytes : List ℕ) → bytes ≡ take n left → left ≡ bytes ++ drop n left
 front_and_rest n left bytes is = sym (take-append-drop n left) ∙ ap (λ front. front ++ drop n left) (sym is)
 
 means_all : (left bytes : List ℕ) (jobs : List Job) → bytes ≡ take 16777217 left → Means bytes jobs → Means left jobs

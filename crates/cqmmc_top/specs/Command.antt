@@ -8,7 +8,7 @@ use Rattle.array_edge.specs.Array.{ArrayState}
 use Rattle.io_edge.specs.Sink.{TookPart}
 use Rattle.intent_store.specs.Intent.{ShowsImage, shown_by}
 use Rattle.cqmmc_top.specs.declared.command.Command.{Command}
-use Rattle.cqmmc_top.specs.declared.command.Command.TheVariants.{Run, ExtCsd, New}
+use Rattle.cqmmc_top.specs.declared.command.Command.TheVariants.{Run, ExtCsd, New, Raw}
 use Rattle.cqmmc_top.specs.declared.refusal.Refusal.{Refusal}
 use Rattle.cqmmc_top.specs.declared.refusal.Refusal.TheVariants.{Usage}
 use Rattle.cqmmc_top.specs.Answers.{IsRunRefused, is_past}
@@ -16,8 +16,9 @@ use Rattle.cqmmc_top.specs.Opened.{HasSectors, OpeningRefused}
 use Rattle.cqmmc_top.specs.Listing.{csd_text}
 use Rattle.cqmmc_top.specs.Made.{IsLeft, IsZeroImage, MakingRefused}
 use Rattle.ext_csd.specs.Values.{fresh}
-use Rattle.cqmmc_top.specs.Print.{HasCause, Served}
-use Rattle.cqmmc_top.specs.Refusal.{status_of, refusal_text}
+use Rattle.cqmmc_top.specs.Print.{HasCause, Served, run_status}
+use Rattle.cqmmc_top.specs.Raw.{RawAnswers}
+use Rattle.cqmmc_top.specs.Refusal.{Says}
 use Rattle.cqmmc_top.specs.Serial.{after_jobs, ended, start}
 use Rattle.cqmmc_top.specs.Texts.{IsPlanOf, HasNoFaults}
 
@@ -40,31 +41,25 @@ pub record IsNew (sectors : ℕ) (words : List (List ℕ)) : Type 0 where
   pub some : 1 ≤ sectors
   pub most : sectors ≤ 65536
 
+-- `raw IMAGE SCRIPT`
+pub record IsRaw (words : List (List ℕ)) : Type 0 where
+  pub image : List ℕ
+  pub script : List ℕ
+  pub are : words ≡ codes "raw" ∷ image ∷ script ∷ []
+
 -- the words call the command
 abbrev pub IsCommand : Command → List (List ℕ) → Type 0
 IsCommand Run words = IsRun words
 IsCommand ExtCsd words = IsExtCsd words
 IsCommand (New sectors) words = IsNew sectors words
-
--- the status of a run, by how it ended
-abbrev pub run_status : Result (Unit {0}) Halt → ℕ
-run_status (Ok done) = 0
-run_status (Err SinkFailed) = 5
-run_status (Err BadImage) = 6
-run_status (Err OpenFault) = 7
-run_status (Err PowerGone) = 8
+IsCommand Raw words = IsRaw words
 
 module _ {K : Type 0} (took : K → List ℕ → K → Type 0) (faults_of : K → Count) where
-  -- the line of a refusal was written and its status answered, or the sink failed within the line
-  pub record Says (refusal : Refusal) (out : K) (status : ℕ) (out' : K) : Type 0 where
-    pub later : Later (faults_of out) (faults_of out')
-    pub said : ((status ≡ status_of refusal) × took out (refusal_text refusal) out') ⊎ ((status ≡ 5) × TookPart took out (refusal_text refusal) out' × Rose (faults_of out) (faults_of out'))
-
   -- a run was refused: by a cause, and the image shows what it showed
   pub record IsRefusedRun (requests : Option (List ℕ)) (first first' : Count) (faults : Option (List ℕ)) (second second' : Count) (old new : ArrayState) (out : K) (status : ℕ) (out' : K) : Type 0 where
     pub refusal : Refusal
     pub cause : IsRunRefused requests first first' faults second second' old new refusal
-    pub says : Says refusal out status out'
+    pub says : Says took faults_of refusal out status out'
     pub shown : shown_by new ≡ shown_by old
     pub kept : ShowsImage old → ShowsImage new
 
@@ -96,7 +91,7 @@ module _ {K : Type 0} (took : K → List ℕ → K → Type 0) (faults_of : K �
   pub record IsUnopened (old new : ArrayState) (out : K) (status : ℕ) (out' : K) : Type 0 where
     pub refusal : Refusal
     pub cause : OpeningRefused old new refusal
-    pub says : Says refusal out status out'
+    pub says : Says took faults_of refusal out status out'
     pub shown : shown_by new ≡ shown_by old
     pub kept : ShowsImage old → ShowsImage new
 
@@ -117,7 +112,7 @@ module _ {K : Type 0} (took : K → List ℕ → K → Type 0) (faults_of : K �
     pub refusal : Refusal
     pub cause : MakingRefused sectors old new refusal
     pub left : IsLeft sectors old.told new.told
-    pub says : Says refusal out status out'
+    pub says : Says took faults_of refusal out status out'
 
   -- an image of zero sectors was made
   pub record IsMade (sectors : ℕ) (old new : ArrayState) (out : K) (status : ℕ) (out' : K) : Type 0 where
@@ -131,7 +126,7 @@ module _ {K : Type 0} (took : K → List ℕ → K → Type 0) (faults_of : K �
   -- words that call nothing are told the usage and touch nothing
   pub record IsUsage (words : List (List ℕ)) (old new : ArrayState) (out : K) (status : ℕ) (out' : K) : Type 0 where
     pub no_form : (command : Command) → IsCommand command words → ⊥
-    pub says : Says Usage out status out'
+    pub says : Says took faults_of Usage out status out'
     pub same : new ≡ old
 
   -- the words call a run, and it answers
@@ -148,7 +143,13 @@ module _ {K : Type 0} (took : K → List ℕ → K → Type 0) (faults_of : K �
     pub form : IsNew sectors words
     pub answers : MakeAnswers sectors old new out status out'
 
+  -- the words call a raw script, which is the first text, and it answers
+  pub record IsAnsweredRaw (words : List (List ℕ)) (script : Option (List ℕ)) (first first' : Count) (old new : ArrayState) (out : K) (status : ℕ) (out' : K) : Type 0 where
+    pub form : IsRaw words
+    pub answers : RawAnswers took faults_of script first first' old new out status out'
+
   abbrev pub Answers : List (List ℕ) → Option (List ℕ) → Count → Count → Option (List ℕ) → Count → Count → ArrayState → ArrayState → K → ℕ → K → Type 0
   Answers words requests first first' faults second second' old new out status out' =
       IsUsage words old new out status out' ⊎ (IsAnsweredRun words requests first first' faults second second' old new out status out'
-      ⊎ (IsAnsweredList words old new out status out' ⊎ IsAnsweredNew words old new out status out'))
+      ⊎ (IsAnsweredList words old new out status out' ⊎ (IsAnsweredNew words old new out status out'
+      ⊎ IsAnsweredRaw words requests first first' old new out status out')))

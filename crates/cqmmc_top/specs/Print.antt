@@ -17,6 +17,14 @@ use Rattle.io_edge.specs.Sink.{TookPart}
 use Rattle.trace_text.specs.Trace.{item_text, items_text}
 use Rattle.cqmmc_top.specs.Serial.{Serial, Over, Line, Lines, IsNear}
 
+-- the status of a run, by how it ended
+abbrev pub run_status : Result (Unit {0}) Halt → ℕ
+run_status (Ok done) = 0
+run_status (Err SinkFailed) = 5
+run_status (Err BadImage) = 6
+run_status (Err OpenFault) = 7
+run_status (Err PowerGone) = 8
+
 -- a line was taken, or the sink failed within it
 abbrev pub PrintsLine : {K : Type 0} → (K → List ℕ → K → Type 0) → K → Item → Result (Unit {0}) Halt → K → Type 0
 PrintsLine took old item (Ok done) new = took old (item_text item) new

@@ -1,12 +1,15 @@
--- What the texts of a run say, and why one is refused. A text is all that its source has left, where it tells that.
+-- What the texts of a command say, and why one is refused. A text is all that its source has left, where it tells that.
 use Rattle.std.specs.Prelude.{◌≡◌, ℕ, All, List, [], take, Option, IfSome}
 use Rattle.storage_model.specs.Count.{Count, Rose}
 use Rattle.storage_model.specs.Plan.{IsValidPlan}
 use Rattle.storage_model.specs.declared.plan.Plan.{Plan}
+use Rattle.raw_text.specs.Meaning.{Means as ScriptMeans, IsBadAt as ScriptBadAt}
+use Rattle.raw_text.specs.Raw.{IsOp}
+use Rattle.raw_text.specs.declared.op.RawOp.{RawOp}
 use Rattle.script_text.specs.Requests.{Means, IsBadAt, IsRequest, HasDefaults}
 use Rattle.script_text.specs.Faults.{FaultsBadAt}
 use Rattle.cqmmc_top.specs.declared.refusal.Refusal.{Refusal}
-use Rattle.cqmmc_top.specs.declared.refusal.Refusal.TheVariants.{BadRequests, BadFaults, ReadFault, NoMemory}
+use Rattle.cqmmc_top.specs.declared.refusal.Refusal.TheVariants.{BadRequests, BadFaults, BadScript, ReadFault, NoMemory}
 
 -- the plan that a request text means
 pub record IsPlanOf (text : Option (List ℕ)) (plan : Plan) : Type 0 where
@@ -40,3 +43,14 @@ FaultsRefused text old new (BadFaults line) = IfSome text (λ bytes. FaultsBadAt
 FaultsRefused text old new ReadFault = Rose old new
 FaultsRefused text old new NoMemory = Unit {0}
 FaultsRefused text old new _ = ⊥
+
+-- the operations that a raw script means
+pub record IsScriptOf (text : Option (List ℕ)) (ops : List RawOp) : Type 0 where
+  pub means : IfSome text (λ bytes. ScriptMeans bytes ops)
+  pub each : All IsOp ops
+
+abbrev pub ScriptRefused : Option (List ℕ) → Count → Count → Refusal → Type 0
+ScriptRefused text old new (BadScript line) = IfSome text (λ bytes. ScriptBadAt bytes line)
+ScriptRefused text old new ReadFault = Rose old new
+ScriptRefused text old new NoMemory = Unit {0}
+ScriptRefused text old new _ = ⊥

@@ -8,12 +8,14 @@ ghost use Rattle.cqmmc_top.specs.Opened.{IsOpen};
 ghost use Rattle.cqmmc_top.specs.Serial.{IsServable};
 ghost use Rattle.cqmmc_top.specs.declared.command.Command.{Command as CommandOf};
 ghost use Rattle.cqmmc_top.specs.declared.command.Command.TheVariants.{New as NewOf};
-ghost use Rattle.cqmmc_top.specs.Command.{Answers, IsCommand, IsNew, IsServed, ListAnswers, MakeAnswers, RunAnswers, Says};
+ghost use Rattle.cqmmc_top.specs.Command.{Answers, IsCommand, IsNew, IsServed, ListAnswers, MakeAnswers, RunAnswers};
+ghost use Rattle.cqmmc_top.specs.Refusal.{Says};
 
 use crate::listing::put_csd;
 use crate::make::make_image;
 use crate::opening::open;
 use crate::prepare::{Ready, prepare};
+use crate::raw::run_script;
 use crate::refusal::{Refusal, put_numbered};
 use crate::run::run_plan;
 use array_edge::Array;
@@ -32,6 +34,8 @@ pub enum Command {
     ExtCsd,
     /// `new IMAGE SECTORS`, of 1 to 65,536 sectors
     New { sectors: u32 },
+    /// `raw IMAGE SCRIPT`
+    Raw,
 }
 
 /// How many pages `new` makes: 8 and one for each sector. None comes exactly where the words are no form of `new`.
@@ -43,6 +47,7 @@ pub fn new_pages(words: &[String]) -> Option<u32>
         Some(Command::New { sectors }) => Some(8 + sectors),
         Some(Command::Run) => None,
         Some(Command::ExtCsd) => None,
+        Some(Command::Raw) => None,
         None => None,
     }
 }
@@ -67,6 +72,7 @@ pub fn run_command<A: Array, S1: Source, S2: Source, S3: Source, K: Sink>(
         Some(Command::Run) => run(alloc, first, second, &mut array, out),
         Some(Command::ExtCsd) => list(&mut array, out),
         Some(Command::New { sectors }) => make(sectors, &mut array, out),
+        Some(Command::Raw) => run_script(alloc, first, &mut array, out),
     };
     (status, array)
 }
@@ -145,6 +151,7 @@ fn command_of(words: &[String]) -> Option<Command>
         [command, _, _, _] if is_word(command, "run") => Some(Command::Run),
         [command, _] if is_word(command, "extcsd") => Some(Command::ExtCsd),
         [command, _, sectors] if is_word(command, "new") => new_of(sectors),
+        [command, _, _] if is_word(command, "raw") => Some(Command::Raw),
         _ => None,
     }
 }
@@ -171,7 +178,7 @@ fn is_word(word: &String, text: &str) -> bool
 }
 
 // Writes the refusal's line, and answers its status, or 5 where the sink failed.
-fn refuse<K: Sink>(refusal: Refusal, out: &mut K) -> u8
+pub fn refuse<K: Sink>(refusal: Refusal, out: &mut K) -> u8
     ensures { Says K.took K.faults refusal out.old result out.new }
 {
     match refusal.put(out) {

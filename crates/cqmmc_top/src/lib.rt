@@ -8,6 +8,7 @@ mod moves;
 mod opening;
 mod prepare;
 mod print;
+mod raw;
 mod refusal;
 mod run;
 mod serve;
@@ -15,5 +16,7 @@ mod texts;
 
 pub use command::{new_pages, run_command};
 
+#[cfg(test)]
+mod raw_tests;
 #[cfg(test)]
 mod tests;

@@ -15,6 +15,7 @@ pub enum Refusal {
     Usage,
     BadRequests { line: u32 },
     BadFaults { line: u32 },
+    BadScript { line: u32 },
     /// A text's source failed.
     ReadFault,
     /// The pages are no image, or too few for one.
@@ -34,6 +35,7 @@ impl Refusal {
         match self {
             Refusal::Usage => 2,
             Refusal::BadRequests { .. } | Refusal::BadFaults { .. } => 3,
+            Refusal::BadScript { .. } => 3,
             Refusal::ReadFault => 4,
             Refusal::BadImage => 6,
             Refusal::ArrayFault => 7,
@@ -52,6 +54,7 @@ impl Refusal {
             Refusal::Usage => put_all(out, b"usage\n"),
             Refusal::BadRequests { line } => put_numbered(b"bad requests ", line, out),
             Refusal::BadFaults { line } => put_numbered(b"bad faults ", line, out),
+            Refusal::BadScript { line } => put_numbered(b"bad script ", line, out),
             Refusal::ReadFault => put_all(out, b"read fault\n"),
             Refusal::BadImage => put_all(out, b"bad image\n"),
             Refusal::ArrayFault => put_all(out, b"array fault\n"),

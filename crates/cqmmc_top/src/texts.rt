@@ -1,12 +1,13 @@
-// The texts of a run, read from their sources.
+// The texts of a command, read from their sources.
 ghost use Rattle.std.specs.Prelude.{◌≡◌, ◌+◌, IfOk, IfErr, Ok};
 ghost use Rattle.storage_model.specs.Count.{Later, Rose};
 ghost use Rattle.storage_model.specs.Plan.{IsValidPlan};
 ghost use Rattle.script_text.specs.Faults.{FaultsMean};
-ghost use Rattle.cqmmc_top.specs.Texts.{IsPlanOf, HasNoFaults, RequestsRefused, FaultsRefused, WasRead, IsTakenRefused};
+ghost use Rattle.cqmmc_top.specs.Texts.{IsPlanOf, HasNoFaults, RequestsRefused, FaultsRefused, IsScriptOf, ScriptRefused, WasRead, IsTakenRefused};
 
 use crate::refusal::Refusal;
 use io_edge::{Source, TakeEnd, take_all};
+use raw_text::{RawList, read_raw};
 use script_text::{read_faults, read_requests};
 use std::alloc::Global;
 use storage_model::{Bytes, Plan, TextEnd};
@@ -37,6 +38,20 @@ pub fn take_faults<S: Source>(alloc: Global, source: &mut S) -> Result<(), Refus
     match read_faults(alloc, text.as_slice()) {
         Ok(_) => Ok(()),
         Err(TextEnd::Bad { line }) => Err(Refusal::BadFaults { line }),
+        Err(TextEnd::NoMemory) => Err(Refusal::NoMemory),
+    }
+}
+
+/// The operations of a raw script.
+pub fn take_script<S: Source>(alloc: Global, source: &mut S) -> Result<RawList, Refusal>
+    ensures ok { IfOk result (IsScriptOf (S.left source.old)) }
+    ensures err { IfErr result (ScriptRefused (S.left source.old) (S.faults source.old) (S.faults source.new)) }
+    ensures faults { Later (S.faults source.old) (S.faults source.new) }
+{
+    let text = take_text(alloc, source)?;
+    match read_raw(alloc, text.as_slice()) {
+        Ok(ops) => Ok(ops),
+        Err(TextEnd::Bad { line }) => Err(Refusal::BadScript { line }),
         Err(TextEnd::NoMemory) => Err(Refusal::NoMemory),
     }
 }

@@ -1,0 +1,12 @@
+use Rattle.std.proofs.Common.{refl, inl}
+use Rattle.cqmmc_top.specs.Raw.{by_script}
+use Rattle.cqmmc_top.proofs.raw.run_script.Goals as goal
+
+pub returns-in-Err : goal.returns-in-Err
+returns-in-Err g c = inl (record {
+  refusal = c.in-Err.refusal;
+  cause = by_script c.in-Err.ensures.refused refl;
+  says = record { later = c.refuse.ensures.later; said = c.refuse.ensures.said };
+  shown = refl;
+  kept = λ is. is;
+})
