@@ -379,11 +379,11 @@ fn sink_takes_a_front_of_the_lines(rt: HostRuntime) -> Result<(), Fail> {
         let mut out = MemSink::with_room(alloc, 4096, vec![in alloc; place as u32 + 1]?)?;
         let array = image(alloc, 8, Gate::Shut, &[])?;
         let answer = run_script(alloc, DIRECT, array, &mut out)?;
-        assert_eq!(rt;
-            out.bytes(),
-            &DIRECT_SHOWN.as_bytes()[..taken],
+        assert!(rt;
+            DIRECT_SHOWN.as_bytes().starts_with(out.bytes()),
             "before {line}"
         );
+        assert_eq!(rt; out.bytes().len(), taken, "before {line}");
         assert_eq!(rt; answer.0, 5, "before {line}");
         taken += line.len();
     }
