@@ -1,6 +1,6 @@
 -- What a data phase, or a direct command, does (JESD84-B51: CMD46 and CMD47, the cache flush and the barrier by CMD6, reliable write, forced
 -- programming).
-use Rattle.std.specs.Prelude.{ℕ, ◌+◌, ◌-◌, ◌==◌, ◌&&◌, ◌||◌, nat_le, nat_lt, min, Bool, true, false, not, if◌then◌else◌, Option, List, [], ◌∷◌, ◌++◌, filter, is_none, map, slice_set, slice_range, length}
+use Rattle.std.specs.Prelude.{ℕ, ◌+◌, ◌==◌, ◌&&◌, ◌||◌, nat_le, nat_lt, min, Bool, true, false, not, if◌then◌else◌, Option, List, [], ◌∷◌, ◌++◌, filter, is_none, map, slice_set, slice_range, length}
 use Rattle.std.specs.List.{range_with_len}
 use Rattle.storage_machine.specs.Commands.{due, hit}
 use Rattle.storage_machine.specs.Jobs.{is_direct, is_read, job_of, must_keep, sector_of}
