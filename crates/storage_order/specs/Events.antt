@@ -1,5 +1,5 @@
--- Events. The lines of one event take the machine from a state to another; a run is one event after the other. An event may also end without
--- a line, by rules 12 to 15: 13, the host has nothing to do; 14, when the engine may print nothing.
+-- Events. The lines of one event take the machine from a state to another; a run is one event after the other. The rules say which events may
+-- end without a line: by 12 and 15 none of power, by 13 the host's where it has nothing to do, by 14 the engine's where it may print nothing.
 use Rattle.std.specs.Prelude.{◌≡◌, ℕ, ◌+◌, ◌&&◌, nat_le, nat_lt, Bool, true, false, not, if◌then◌else◌, Option, Some, None, List, [], ◌∷◌, ◌++◌}
 use Rattle.storage_machine.specs.Commands.{due, hit, is_gone, is_idle}
 use Rattle.trace_effects.specs.Effects.{begun, effect}
