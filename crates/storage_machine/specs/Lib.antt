@@ -3,8 +3,4 @@ pub mod Jobs
 pub mod Commands
 pub mod Host
 pub mod Cuts
-pub mod Phases
-pub mod Lines
-pub mod Effects
-pub mod Steps
 pub mod Sound

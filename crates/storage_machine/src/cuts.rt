@@ -1,7 +1,7 @@
 // Power cuts: which `cut` line is due, and what comes after a cut.
 ghost use Rattle.std.specs.Prelude.{◌≡◌, ◌==◌, ◌&&◌, nat_le, not, option_map, position, zip, slice_get};
 ghost use Rattle.std.specs.List.{list_any};
-ghost use Rattle.storage_machine.specs.Cuts.{all_epochs, due_line, epochs_with, first_lost, has_own_line, is_deferred, is_due, least, lower_issued, nearer, next_left, same_block, sent_so_far, shows};
+ghost use Rattle.storage_machine.specs.Cuts.{due_line, first_lost, has_own_line, is_due, least, lower_issued, nearer, next_left, same_block, sent_so_far, shows};
 
 use crate::commands::next_number;
 use crate::host::to_do;

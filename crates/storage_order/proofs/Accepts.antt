@@ -1,8 +1,8 @@
 -- A line that is accepted or refused.
 use Rattle.std.proofs.Common.{◌≡◌, ◌∙◌, ℕ, Bool, true, false, Option, Some, None, cond, refl, ap, sym}
 use Rattle.storage_machine.specs.Cuts.{least}
-use Rattle.storage_machine.specs.Lines.{holds, line_rule, owing, rule_of}
-use Rattle.storage_machine.specs.Steps.{earlier, event_rule, lower}
+use Rattle.trace_rules.specs.Lines.{holds, line_rule, owing, rule_of}
+use Rattle.trace_rules.specs.Steps.{earlier, event_rule, lower}
 use Rattle.storage_machine.specs.declared.state.State.{State}
 use Rattle.storage_model.specs.declared.trace.Item.{Item}
 use Rattle.storage_order.proofs.Silents.{settled_silent}

@@ -1,10 +1,4 @@
-pub mod Places
-pub mod PhaseFacts
-pub mod Puts
-pub mod Ranges
-pub mod Withins
-pub mod LineFacts
 pub mod Silents
-pub mod Sounds
+pub mod Settles
 pub mod Accepts
 pub mod Folds

@@ -2,7 +2,7 @@
 use Rattle.std.proofs.Common.{◌≡◌, ◌∙◌, Bool, true, false, cond, refl}
 use Rattle.storage_machine.specs.Commands.{due}
 use Rattle.storage_machine.specs.Host.{recovery_steps, recovery_steps_at}
-use Rattle.storage_machine.specs.Steps.{ended, ended_by, engine_step, passed}
+use Rattle.storage_order.specs.Events.{ended, ended_by, engine_step, passed}
 use Rattle.storage_machine.specs.declared.commands.DueCommand.{DueCommand}
 use Rattle.storage_machine.specs.declared.commands.DueCommand.TheVariants.{Idle, Address, Params, Direct, Execute, Poll}
 use Rattle.storage_machine.specs.declared.state.Event.{Event}

@@ -1,9 +1,9 @@
 -- The acceptance of traces: the state after the lines, or the lowest rule that the first bad line breaks.
 use Rattle.std.specs.Prelude.{◌≡◌, ℕ, true, false, Option, Some, None, Result, Ok, Err, List, [], ◌∷◌, ◌++◌, length, replicate}
-use Rattle.storage_machine.specs.Effects.{effect}
-use Rattle.storage_machine.specs.Lines.{line_rule}
+use Rattle.trace_effects.specs.Effects.{effect}
+use Rattle.trace_rules.specs.Lines.{line_rule}
 use Rattle.storage_machine.specs.Slots.{no_tasks}
-use Rattle.storage_machine.specs.Steps.{earlier, event_rule, lower}
+use Rattle.trace_rules.specs.Steps.{earlier, event_rule, lower}
 use Rattle.storage_machine.specs.declared.state.Event.TheVariants.{Untold}
 use Rattle.storage_machine.specs.declared.state.Owed.TheVariants.{Card}
 use Rattle.storage_machine.specs.declared.state.Recovery.TheVariants.{Calm}

@@ -1,4 +1,4 @@
-pub mod Within
+pub mod Events
 pub mod Order
 pub mod Accept
 pub mod Silent

@@ -4,8 +4,9 @@ use Rattle.std.specs.Prelude.{ℕ, ◌&&◌, ◌||◌, nat_lt, Bool, true, false
 use Rattle.storage_machine.specs.Commands.{is_calm, is_idle}
 use Rattle.storage_machine.specs.Cuts.{is_due}
 use Rattle.storage_machine.specs.Host.{has_work, recovery_steps, to_do}
-use Rattle.storage_machine.specs.Lines.{is_free}
-use Rattle.storage_machine.specs.Steps.{end_rule, ended, engine_step, is_cut, is_cut_by, is_due_event, is_line_of, is_nothing, lower, unless}
+use Rattle.trace_rules.specs.Lines.{is_free}
+use Rattle.storage_order.specs.Events.{end_rule, ended, engine_step}
+use Rattle.trace_rules.specs.Steps.{is_cut, is_cut_by, is_due_event, is_line_of, is_nothing, lower, unless}
 use Rattle.storage_machine.specs.declared.state.Event.{Event}
 use Rattle.storage_machine.specs.declared.state.Event.TheVariants.{Untold, Told, Due}
 use Rattle.storage_machine.specs.declared.state.State.{State}

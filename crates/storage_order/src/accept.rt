@@ -3,18 +3,18 @@ ghost use Rattle.std.specs.Prelude.{◌≡◌, ◌++◌, List, None, IfOk, IfErr
 ghost use Rattle.storage_model.specs.declared.trace.Item.{Item};
 ghost use Rattle.storage_order.specs.Accept.{IsCause, IsRefused, accept_from, accepted, broken_rule, started};
 ghost use Rattle.storage_order.specs.Start.{IsStart};
-ghost use Rattle.storage_machine.specs.Lines.{line_rule};
+ghost use Rattle.trace_rules.specs.Lines.{line_rule};
 ghost use Rattle.storage_machine.specs.Sound.{IsSound};
-ghost use Rattle.storage_machine.specs.Steps.{earlier, event_rule, lower};
+ghost use Rattle.trace_rules.specs.Steps.{earlier, event_rule, lower};
 
-use crate::apply::apply;
 use crate::order::{restore, settle, silent_of};
 use crate::start::start_state;
 use std::alloc::Global;
 use std::marker::Model;
 use storage_machine::State;
-use storage_machine::steps::{event_rule, line_rule, lower};
 use storage_model::{BlockList, Faults, Item, NoMemory, Plan};
+use trace_effects::apply::apply;
+use trace_rules::steps::{event_rule, line_rule, lower};
 
 /// Why a line isn't accepted: the lowest rule that it breaks, from 1 to 16, or want of memory.
 #[derive(Clone, Copy, Debug, PartialEq, Eq)]

@@ -2,20 +2,19 @@
 ghost use Rattle.std.specs.Prelude.{◌≡◌, ◌&&◌, ◌||◌, not};
 ghost use Rattle.storage_machine.specs.Commands.{is_calm};
 ghost use Rattle.storage_machine.specs.Cuts.{is_due};
-ghost use Rattle.storage_machine.specs.Steps.{end_rule, ended, is_cut, lower};
+ghost use Rattle.storage_order.specs.Events.{end_rule, ended};
+ghost use Rattle.trace_rules.specs.Steps.{is_cut, lower};
 ghost use Rattle.storage_order.specs.Order.{engine_first, forced, is_alone, is_cut_phase, is_engine, is_next, is_of_cut, is_told, letters_left, needs_step, next_actor, order_rule, settled, start_rule, starts, starts_at, untold_steps, with_due};
 ghost use Rattle.storage_order.specs.Silent.{with_silent};
 
+use crate::events::{end, end_rule, engine_step};
 use storage_machine::commands::{is_calm, is_idle};
 use storage_machine::cuts::is_due;
 use storage_machine::host::{has_work, recovery_steps, to_do};
-use storage_machine::lines::is_free;
-use storage_machine::steps::{
-    end, end_rule, engine_step, is_cut, is_cut_by, is_due_event, is_line_of, is_nothing, lower,
-    unless,
-};
 use storage_machine::{Event, Recovery, Slot, State};
 use storage_model::{Item, Letter};
+use trace_rules::lines::is_free;
+use trace_rules::steps::{is_cut, is_cut_by, is_due_event, is_line_of, is_nothing, lower, unless};
 
 /// What an event that prints nothing may change.
 #[derive(Clone, Copy)]

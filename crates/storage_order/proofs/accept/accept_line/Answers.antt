@@ -1,8 +1,9 @@
 use Rattle.std.proofs.Common.{◌∙◌, sym, ap}
-use Rattle.storage_machine.specs.Effects.{effect}
-use Rattle.storage_machine.specs.Steps.{event_rule, lower}
+use Rattle.trace_effects.specs.Effects.{effect}
+use Rattle.trace_rules.specs.Steps.{event_rule, lower}
 use Rattle.storage_order.proofs.Accepts.{holds_unbroken, restored, rule_is}
-use Rattle.storage_order.proofs.Sounds.{effect_keeps, settled_keeps, sound_kept}
+use Rattle.storage_order.proofs.Settles.{settled_keeps}
+use Rattle.trace_effects.proofs.Sounds.{effect_keeps, sound_kept}
 use Rattle.storage_order.proofs.accept.accept_line.Goals as goal
 
 pub returns-in-Some-clause-cause : goal.returns-in-Some-clause-cause

@@ -1,6 +1,0 @@
-use Rattle.std.proofs.Common.{◌≡◌}
-use Rattle.std.specs.List.{range_with_len}
-use Rattle.storage_order.proofs.cut_effects.all_epochs.Given as goal
-
-abbrev pub invariant-loop-epoch : goal.invariant-loop-epoch
-invariant-loop-epoch l = l.epochs ≡ range_with_len 0 l.epoch

@@ -1,8 +1,0 @@
-use Rattle.std.proofs.Common.{◌≡◌, ◌≤◌, drop}
-use Rattle.storage_machine.specs.Phases.{named_by}
-use Rattle.storage_model.proofs.Keeps.{base_after}
-use Rattle.storage_model.specs.Keep.{keep_base}
-use Rattle.storage_order.proofs.keeping.keep_into.Given as goal
-
-abbrev pub invariant-loop-mark : goal.invariant-loop-mark
-invariant-loop-mark l = (base_after l.last (named_by l.job) l.epoch l.base (drop l.mark-index l.pend) ≡ keep_base (named_by l.job) l.initial.base l.pend) × (l.epoch ≤ l.mark-index)

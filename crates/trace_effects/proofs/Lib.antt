@@ -1,0 +1,7 @@
+pub mod Places
+pub mod PhaseFacts
+pub mod Puts
+pub mod Ranges
+pub mod Withins
+pub mod LineFacts
+pub mod Sounds

@@ -1,0 +1,4 @@
+pub mod Within
+pub mod Cuts
+pub mod Phases
+pub mod Effects

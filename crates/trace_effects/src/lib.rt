@@ -1,0 +1,9 @@
+//! What each line of a trace does to the storage machine.
+#![tactic(auto)]
+
+pub mod apply;
+mod cut_effects;
+mod effects;
+mod keeping;
+mod lists;
+mod phase_effects;
