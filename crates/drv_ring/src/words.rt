@@ -1,0 +1,44 @@
+// Bytes, words and descriptors in memory that is there.
+ghost use Rattle.std.specs.Prelude.{◌≡◌, ◌+◌, ◌<◌, ◌≤◌, ◌^◌, length, false, Ok};
+ghost use Rattle.host_mem.specs.Memory.{HasRange, bytes_of};
+ghost use Rattle.cq_desc.specs.Transfer.{IsXferInRange};
+ghost use Rattle.cq_chain.specs.Descriptors.{Reads, word_at};
+ghost use Rattle.drv_ring.specs.Changes.{ChangesWithin, area};
+
+use cq_desc::{Xfer, write_xfer};
+use cq_words::put64;
+use host_mem::HostMem;
+
+/// Copies bytes to an address.
+pub(crate) fn write_bytes(mem: &mut HostMem, at: u64, bytes: &[u8])
+    requires { HasRange mem.old at (length bytes.now) }
+    ensures written { bytes_of mem.new at (length bytes.now) ≡ bytes.now }
+    ensures within { ChangesWithin (area at (length bytes.now)) mem.old mem.new }
+{
+    match mem.copy_in(at, bytes) {
+        Ok(()) => {}
+        Err(_) => unreachable!(),
+    }
+}
+
+/// Writes a word of 8 bytes at an address, the lowest byte first, as `cpu_to_le64` of the Linux kernel has it.
+pub(crate) fn write_word(mem: &mut HostMem, at: u64, word: u64)
+    requires { HasRange mem.old at 8 }
+    ensures written { word_at mem.new at ≡ word }
+    ensures within { ChangesWithin (area at 8) mem.old mem.new }
+{
+    let mut bytes = [0; 8];
+    put64(&mut bytes, 0, word);
+    write_bytes(mem, at, &bytes);
+}
+
+/// Writes a transfer descriptor of 64 bits at an address.
+pub(crate) fn write_descriptor(mem: &mut HostMem, at: u64, xfer: &Xfer)
+    requires inside { HasRange mem.old at 8 }
+    requires fits { IsXferInRange false xfer.now }
+    ensures written { Reads mem.new false at (Ok xfer.now) }
+    ensures within { ChangesWithin (area at 8) mem.old mem.new }
+{
+    let (low, _) = write_xfer(xfer, false);
+    write_word(mem, at, low);
+}
