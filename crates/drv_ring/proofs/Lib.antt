@@ -7,3 +7,4 @@ pub mod Others
 pub mod Filled
 pub mod Placed
 pub mod Jobs
+pub mod RingLaws
