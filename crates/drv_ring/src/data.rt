@@ -10,6 +10,7 @@ ghost use Rattle.drv_ring.specs.Changes.{ChangesWithin, buffer_area};
 use crate::Layout;
 use crate::places::MOST_BLOCKS;
 use crate::words::write_bytes;
+use cq_task::BLOCK_BYTES;
 use host_mem::HostMem;
 use storage_model::{Block, Fill, Plan, block_of};
 
@@ -19,7 +20,7 @@ impl Layout {
         requires { self.now.base ≤ 2 ^ 32 }
         ensures { result ≡ buffer_at self.now tag + 512 * k }
     {
-        self.buffer_at(tag) + 512 * u64::from(k)
+        self.buffer_at(tag) + u64::from(BLOCK_BYTES * u32::from(k))
     }
 
     /// Writes the blocks of a fill to the buffer of a tag, in order.

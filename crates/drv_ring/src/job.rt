@@ -14,7 +14,7 @@ ghost use Rattle.drv_ring.specs.Asks.{Asks, HasChain, HoldsData};
 ghost use Rattle.drv_ring.specs.Changes.{ChangesWithin, KeepsTag, areas_of, buffer_area, slot_area, table_area};
 
 use crate::Layout;
-use crate::places::MOST_BLOCKS;
+use crate::places::{DESCRIPTOR_BYTES, MOST_BLOCKS};
 use crate::task::{FLUSH_CACHE, SET_BARRIER, read_desc, status_desc, switch_desc, write_desc};
 use crate::words::{write_descriptor, write_word};
 use cq_desc::{DirectDesc, TaskDesc, Xfer, write_direct, write_task};
@@ -106,7 +106,7 @@ impl Layout {
             at: self.table_at(tag),
         };
         write_word(mem, slot, write_task(desc));
-        write_descriptor(mem, slot + 8, &link);
+        write_descriptor(mem, slot + DESCRIPTOR_BYTES, &link);
     }
 
     /// Writes the slot of a direct command, with nothing in its second half.
@@ -120,6 +120,6 @@ impl Layout {
     {
         let slot = self.slot_at(tag);
         write_word(mem, slot, write_direct(desc));
-        write_word(mem, slot + 8, 0);
+        write_word(mem, slot + DESCRIPTOR_BYTES, 0);
     }
 }

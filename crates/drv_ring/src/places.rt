@@ -10,7 +10,10 @@ pub const MOST_DEPTH: u8 = 31;
 /// The most blocks of a read or write.
 pub const MOST_BLOCKS: u16 = 1024;
 
-/// The bytes of a slot: two descriptors of 64 bits.
+/// The bytes of a descriptor, which has 64 bits.
+pub const DESCRIPTOR_BYTES: u64 = 8;
+
+/// The bytes of a slot: two descriptors.
 pub const SLOT_BYTES: u64 = 16;
 
 /// How far the first table of transfer descriptors is from the base.

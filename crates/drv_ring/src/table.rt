@@ -7,7 +7,7 @@ ghost use Rattle.drv_ring.specs.Asks.{transfer_at};
 ghost use Rattle.drv_ring.specs.Changes.{ChangesWithin, table_area};
 
 use crate::Layout;
-use crate::places::MOST_BLOCKS;
+use crate::places::{DESCRIPTOR_BYTES, MOST_BLOCKS};
 use crate::words::write_descriptor;
 use cq_chain::Piece;
 use cq_desc::Xfer;
@@ -56,13 +56,13 @@ impl Layout {
         requires layout { HasLayout mem.old self.now }
         requires tag { tag < self.now.depth }
         requires blocks { blocks ≤ MOST_BLOCKS }
-        ensures written { (k : ℕ) → k < piece_count blocks → Reads mem.new false (table_at self.now tag + 8 * k) (Ok (transfer_at self.now tag blocks k)) }
+        ensures written { (k : ℕ) → k < piece_count blocks → Reads mem.new false (table_at self.now tag + DESCRIPTOR_BYTES * k) (Ok (transfer_at self.now tag blocks k)) }
         ensures within { ChangesWithin (table_area self.now tag) mem.old mem.new }
     {
         let table = self.table_at(tag);
         for k in 0..piece_count(blocks) {
             let xfer = self.transfer_at(tag, blocks, k);
-            write_descriptor(mem, table + 8 * u64::from(k), &xfer);
+            write_descriptor(mem, table + DESCRIPTOR_BYTES * u64::from(k), &xfer);
         }
     }
 }
