@@ -1,13 +1,14 @@
 -- What the layers above need of a tag's pieces: no two have a byte in common, and a write into them leaves what every slot asks
 -- for and what the other tags hold.
-use Rattle.std.proofs.Common.{◌≡◌, ◌≢◌, ℕ, ◌+◌, ◌-◌, ◌*◌, ◌/◌, ◌<◌, ◌≤◌, inl, inr, min, Bool, List, [], ◌∷◌, get_or, length, map, refl, sym, ap, subst, ◌∙◌, arith}
+use Rattle.std.proofs.Common.{◌≡◌, ◌≢◌, ℕ, ◌+◌, ◌*◌, ◌<◌, ◌≤◌, inr, Bool, List, [], get_or, map, refl, sym, ap, subst, ◌∙◌, arith}
 use Rattle.std.specs.Prelude.{All}
 use Rattle.std.specs.List.{range_with_len}
 use Rattle.std.proofs.lemmas.List.Elements.{All-nil, All-cons, All-head, All-map}
 use Rattle.std.proofs.lemmas.List.FromFn.{length-map-range_with_len, get_or-map-range_with_len}
-use Rattle.host_mem.specs.Memory.{Memory, HasRange, bytes_of}
+use Rattle.host_mem.specs.Memory.{Memory, HasRange}
 use Rattle.storage_model.specs.declared.block.Block.{Block}
 use Rattle.storage_model.specs.declared.plan.Job.{Job}
+use Rattle.storage_model.specs.declared.plan.Job.TheVariants.{Read, Write, Flush, Barrier, Status}
 use Rattle.cq_chain.specs.declared.pieces.Piece.{Piece}
 use Rattle.cq_chain.specs.Descriptors.{word_at}
 use Rattle.cq_task.specs.Place.{place_of, chain_of}
@@ -15,11 +16,11 @@ use Rattle.piece_data.specs.Data.{block_of, parts}
 use Rattle.piece_data.specs.Laws.{HasSameSpace, IsApart, AreApart, KeepsOthers}
 use Rattle.piece_data.proofs.Kept.{parts-apart}
 use Rattle.drv_ring.specs.declared.places.Layout.{Layout}
-use Rattle.drv_ring.specs.Layout.{list_of, table_at, buffer_at, HasLayout}
+use Rattle.drv_ring.specs.Layout.{list_of, table_at, buffer_at, HasLayout, IsTagOf}
 use Rattle.drv_ring.specs.Pieces.{piece_count, piece_at, tag_pieces}
-use Rattle.drv_ring.specs.Asks.{Asks}
+use Rattle.drv_ring.specs.Asks.{Asks, HasBlocks, HoldsData}
 use Rattle.drv_ring.specs.Changes.{ChangesWithin, KeepsTag, area, buffer_area}
-use Rattle.drv_ring.proofs.Changed.{within-kept, word-kept}
+use Rattle.drv_ring.proofs.Changed.{word-kept}
 use Rattle.drv_ring.proofs.Inside.{slot-inside, table-inside, buffer-inside, base-below, layout-same_space}
 use Rattle.drv_ring.proofs.Pieced.{block_of-pieces}
 use Rattle.drv_ring.proofs.Others.{SameWords, asks-kept}
@@ -109,4 +110,22 @@ pub buffer-keeps : (layout : Layout) (tag other : ℕ) (old new : Memory) → Ha
 buffer-keeps layout tag other old new held lt apart change = record {
   job = λ job int asks. buffer-asks layout tag other job int old new held lt change asks;
   data_held = λ low blocks k few less. other-block layout tag other blocks k old new held low apart change few less;
+}
+
+-- what a write is to write is still there
+pub data-kept : (layout : Layout) (tag : ℕ) (job : Job) (listed : List Block) (old new : Memory) → KeepsTag layout tag old new
+    → IsTagOf layout tag job → HasBlocks job → HoldsData old layout tag job listed → HoldsData new layout tag job listed
+data-kept layout tag (Read sector blocks high) listed old new keeps fits few held = held
+data-kept layout tag (Write sector blocks fill forced reliable high) listed old new keeps fits few held = λ k lt.
+    keeps.data_held fits blocks k few.1 lt ∙ held k lt
+data-kept layout tag Flush listed old new keeps fits few held = held
+data-kept layout tag Barrier listed old new keeps fits few held = held
+data-kept layout tag Status listed old new keeps fits few held = held
+
+-- and after one change and the next
+pub keeps-more : (layout : Layout) (tag : ℕ) (old middle new : Memory) → KeepsTag layout tag old middle → KeepsTag layout tag middle new
+    → KeepsTag layout tag old new
+keeps-more layout tag old middle new first second = record {
+  job = λ job int asks. second.job job int (first.job job int asks);
+  data_held = λ lt blocks k few less. second.data_held lt blocks k few less ∙ first.data_held lt blocks k few less;
 }

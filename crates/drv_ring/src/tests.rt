@@ -1,3 +1,8 @@
+ghost use Rattle.std.specs.Prelude.{true, false};
+ghost use Rattle.storage_model.specs.Plan.{IsValidJob};
+ghost use Rattle.drv_ring.specs.Layout.{HasLayout, IsTagOf};
+ghost use Rattle.drv_ring.specs.Asks.{Asks};
+
 use super::Layout;
 use cq_task::{SlotTask, read_slot};
 use host_mem::HostMem;
@@ -97,4 +102,56 @@ fn the_direct_commands(rt: HostRuntime) {
     assert!(rt; has_bytes(&mem, BASE + 0x1f0, &[0x2f, 0x40, 0x86, 1, 1, 2, 0x20, 3]));
     layout.write_job(&mut mem, 31, &Job::Status, &plan, true);
     assert!(rt; has_bytes(&mem, BASE + 0x1f0, &[0x2f, 0x40, 0x4d, 1, 0, 0, 1, 0]));
+}
+
+// The first job is still asked for once the second is written.
+fn write_two(layout: &Layout, mem: &mut HostMem, plan: &Plan, first: &Job, second: &Job)
+    requires layout { HasLayout mem.old layout.now }
+    requires first { IsTagOf layout.now 0 first.now }
+    requires second { IsTagOf layout.now 1 second.now }
+    requires first_valid { IsValidJob plan.now.blocks first.now }
+    requires second_valid { IsValidJob plan.now.blocks second.now }
+    ensures layout { HasLayout mem.new layout.now }
+    ensures first { Asks mem.new layout.now 0 first.now true }
+    ensures second { Asks mem.new layout.now 1 second.now false }
+{
+    layout.write_job(mem, 0, first, plan, true);
+    layout.write_job(mem, 1, second, plan, false);
+}
+
+#[test]
+fn two_tags(rt: HostRuntime) {
+    let layout = Layout::new(BASE, 2);
+    let Ok(mut mem) = HostMem::start(rt.alloc(), BASE, layout.size()) else {
+        panic!(rt; "no memory");
+    };
+    let plan = plan_of(rt.alloc());
+    let read = Job::Read {
+        sector: 7,
+        blocks: 1024,
+        high: false,
+    };
+    let write = Job::Write {
+        sector: 9,
+        blocks: 1024,
+        fill: Fill::Ramp(3),
+        forced: true,
+        reliable: true,
+        high: false,
+    };
+    write_two(&layout, &mut mem, &plan, &read, &write);
+    match (
+        read_slot(&mem, layout.list(), 0),
+        read_slot(&mem, layout.list(), 1),
+    ) {
+        (Ok(SlotTask::Data(first)), Ok(SlotTask::Data(second))) => {
+            assert!(rt; first.desc.read && first.desc.int && first.pieces.len() == 8);
+            assert!(rt; second.desc.forced && second.desc.reliable && second.pieces.len() == 8);
+        }
+        _ => panic!(rt; "no data tasks"),
+    }
+    let mut block = Block([0; 512]);
+    layout.read_block(&mem, 1, 1023, &mut block);
+    assert!(rt; block.0[0] == 228);
+    assert!(rt; block.0[1] == 235);
 }
