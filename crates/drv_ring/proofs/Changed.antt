@@ -1,13 +1,16 @@
 -- Changes within a range, one after the other, and what stays outside it.
-use Rattle.std.proofs.Common.{◌≡◌, ℕ, ◌+◌, ◌-◌, ◌<◌, ◌≤◌, ◌^◌, ◌⊎◌, inl, inr, List, [], ◌∷◌, ◌++◌, length, take, drop, refl, sym, ap, ◌∙◌, arith}
+use Rattle.std.proofs.Common.{Bool, List, Result, [], ap, arith, drop, false, inl, inr, length, refl, sym, take, true, ℕ, ◌*◌, ◌++◌, ◌+◌, ◌-◌, ◌<◌, ◌^◌, ◌∙◌, ◌∷◌, ◌≡◌, ◌≤◌, ◌⊎◌, Ok}
 use Rattle.std.specs.Prelude.{All}
 use Rattle.std.proofs.lemmas.List.Elements.{All-nil, All-cons, All-head, All-tail}
 use Rattle.byteorder.specs.Endian.{little_number, little_bytes}
 use Rattle.byteorder.specs.Numbers.{little_number-reads_back}
 use Rattle.host_mem.specs.Memory.{Memory, HasRange, bytes_of, with_bytes}
-use Rattle.host_mem.proofs.MemoryLaws.{with_bytes-base, with_bytes-length, bytes_of-with_bytes}
+use Rattle.host_mem.proofs.MemoryLaws.{with_bytes-base, with_bytes-length, bytes_of-with_bytes, bytes_of-part}
 use Rattle.cq_chain.specs.declared.pieces.Piece.{Piece}
-use Rattle.cq_chain.specs.Descriptors.{word_at}
+use Rattle.cq_desc.specs.declared.fault.DescFault.{DescFault}
+use Rattle.cq_desc.specs.declared.xfer.Xfer.{Xfer}
+use Rattle.cq_desc.specs.Transfer.{xfer_read}
+use Rattle.cq_chain.specs.Descriptors.{Reads, descriptor_at, size_of, word_at}
 use Rattle.piece_data.specs.Laws.{HasSameSpace, IsApart, KeepsOthers}
 use Rattle.piece_data.proofs.Kept.{written-apart, range-same_space}
 use Rattle.drv_ring.specs.Changes.{ChangesWithin, area}
@@ -93,16 +96,80 @@ pub change-written : (old new : Memory) (at : ℕ) (from : List ℕ) → new ≡
     → ChangesWithin (area at (length from)) old new
 change-written old new at from e inside = rw e (within-written old at from inside)
 
--- two words, one behind the other
-pub pair-first : (old middle new : Memory) (at : ℕ) → HasRange old at 16 → ChangesWithin (area at 8) old middle
-    → ChangesWithin (area (at + 8) 8) middle new → word_at new at ≡ word_at middle at
-pair-first old middle new at inside first second =
-    word-kept (at + 8) 8 middle new second at
+-- two ranges of one size, one behind the other
+pub pair-first : (old middle new : Memory) (at size : ℕ) → 8 ≤ size → HasRange old at (2 * size) → ChangesWithin (area at size) old middle
+    → ChangesWithin (area (at + size) size) middle new → word_at new at ≡ word_at middle at
+pair-first old middle new at size some inside first second =
+    word-kept (at + size) size middle new second at
     (range-same_space old middle at 8 first.space (λ k lt. inside k (omega arith))) (inr (omega arith))
 
-pub pair-within : (old middle new : Memory) (at : ℕ) → ChangesWithin (area at 8) old middle → ChangesWithin (area (at + 8) 8) middle new
-    → ChangesWithin (area at 16) old new
-pair-within old middle new at first second =
-    within-more (area at 16) old middle new
-    (within-wider (area at 8) (area at 16) old middle (omega arith) (omega arith) first)
-    (within-wider (area (at + 8) 8) (area at 16) middle new (omega arith) (omega arith) second)
+pub pair-within : (old middle new : Memory) (at size : ℕ) → ChangesWithin (area at size) old middle
+    → ChangesWithin (area (at + size) size) middle new → ChangesWithin (area at (2 * size)) old new
+pair-within old middle new at size first second =
+    within-more (area at (2 * size)) old middle new
+    (within-wider (area at size) (area at (2 * size)) old middle (omega arith) (omega arith) first)
+    (within-wider (area (at + size) size) (area at (2 * size)) middle new (omega arith) (omega arith) second)
+
+-- the two words of a wide descriptor
+pub wide-low : (wide : Bool) → wide ≡ true → (old middle new : Memory) (at : ℕ) → HasRange old at (size_of wide) → ChangesWithin (area at 8) old middle
+    → ChangesWithin (area (at + 8) 8) middle new → word_at new at ≡ word_at middle at
+wide-low false e old middle new at inside first second = cc
+wide-low true e old middle new at inside first second = pair-first old middle new at 8 (omega arith) inside first second
+
+pub wide-within : (wide : Bool) → wide ≡ true → (old middle new : Memory) (at : ℕ) → ChangesWithin (area at 8) old middle
+    → ChangesWithin (area (at + 8) 8) middle new → ChangesWithin (area at (size_of wide)) old new
+wide-within false e old middle new at first second = cc
+wide-within true e old middle new at first second = pair-within old middle new at 8 first second
+
+-- a descriptor whose bytes stay reads as before
+low-word : (memory : Memory) (at : ℕ) → memory.base ≤ at → word_at memory at ≡ little_number 8 (take 8 (bytes_of memory at 16))
+unfolding word_at
+low-word memory at low =
+    let e : at + 0 ≡ at = omega arith in
+    ap (λ p. little_number 8 (bytes_of memory p 8)) (sym e) ∙ ap (little_number 8) (bytes_of-part memory at 16 0 8 low (omega arith))
+
+high-word : (memory : Memory) (at : ℕ) → memory.base ≤ at → word_at memory (at + 8) ≡ little_number 8 (take 8 (drop 8 (bytes_of memory at 16)))
+unfolding word_at
+high-word memory at low = ap (little_number 8) (bytes_of-part memory at 16 8 8 low (omega arith))
+
+-- the low word of a descriptor whose bytes stay
+pub low-same : (wide : Bool) (old new : Memory) (at : ℕ) → HasSameSpace old new → HasRange old at (size_of wide)
+    → bytes_of new at (size_of wide) ≡ bytes_of old at (size_of wide) → word_at new at ≡ word_at old at
+low-same false old new at space inside e = word-same old new at e
+low-same true old new at space inside e =
+    let first = inside 0 (omega arith) in
+    low-word new at (omega (arith, first.0, space.base)) ∙ ap (λ l. little_number 8 (take 8 l)) e ∙ sym (low-word old at (omega (arith, first.0)))
+
+pub reads-kept : (wide : Bool) (old new : Memory) (at : ℕ) (reading : Result Xfer DescFault) → HasSameSpace old new
+    → bytes_of new at (size_of wide) ≡ bytes_of old at (size_of wide) → Reads old wide at reading → Reads new wide at reading
+unfolding descriptor_at
+reads-kept false old new at reading space e reads = record {
+  inside = range-same_space old new at 8 space reads.inside;
+  value = ap (λ word. xfer_read word 0 false) (word-same old new at e) ∙ reads.value;
+}
+reads-kept true old new at reading space e reads =
+    let first = reads.inside 0 (omega arith) in
+    let low : word_at new at ≡ word_at old at = low-same true old new at space reads.inside e in
+    let high : word_at new (at + 8) ≡ word_at old (at + 8) =
+    high-word new at (omega (arith, first.0, space.base)) ∙ ap (λ l. little_number 8 (take 8 (drop 8 l))) e ∙ sym (high-word old at (omega (arith, first.0))) in
+    record {
+      inside = range-same_space old new at 16 space reads.inside;
+      value =
+          ap (λ word. xfer_read word (word_at new (at + 8)) true) low
+          ∙ ap (λ word. xfer_read (word_at old at) word true) high
+          ∙ reads.value;
+    }
+
+-- a descriptor reads as the words that were written
+pub reads-written : (wide : Bool) (memory : Memory) (at low high : ℕ) (xfer : Xfer) → HasRange memory at (size_of wide)
+    → word_at memory at ≡ low → (wide ≡ true → word_at memory (at + 8) ≡ high) → (wide ≡ false → high ≡ 0)
+    → xfer_read low high wide ≡ Ok xfer → Reads memory wide at (Ok xfer)
+unfolding descriptor_at
+reads-written false memory at low high xfer inside first second none reads = record {
+  inside = inside;
+  value = ap (λ word. xfer_read word 0 false) first ∙ ap (λ word. xfer_read low word false) (sym (none refl)) ∙ reads;
+}
+reads-written true memory at low high xfer inside first second none reads = record {
+  inside = inside;
+  value = ap (λ word. xfer_read word (word_at memory (at + 8)) true) first ∙ ap (λ word. xfer_read low word true) (second refl) ∙ reads;
+}

@@ -1,22 +1,22 @@
 -- The loops that write the table and the blocks of a tag: what is written stays while the rest is written.
-use Rattle.std.proofs.Common.{◌≡◌, ℕ, ◌+◌, ◌*◌, ◌<◌, inr, false, List, refl, subst, ◌∙◌, arith, below_more, Ok}
+use Rattle.std.proofs.Common.{◌≡◌, ℕ, ◌+◌, ◌*◌, ◌<◌, inr, List, refl, subst, ◌∙◌, arith, below_more, Ok}
 use Rattle.host_mem.specs.Memory.{Memory, HasRange, bytes_of}
 use Rattle.storage_model.specs.declared.block.Block.{Block}
 use Rattle.storage_model.specs.declared.plan.Fill.{Fill}
 use Rattle.storage_model.specs.Plan.{block_at}
-use Rattle.cq_chain.specs.Descriptors.{Reads}
+use Rattle.cq_chain.specs.Descriptors.{Reads, size_of as descriptor_size}
 use Rattle.piece_data.proofs.Kept.{range-same_space}
 use Rattle.drv_ring.specs.declared.places.Layout.{Layout}
 use Rattle.drv_ring.specs.Layout.{table_at, buffer_at, HasLayout}
 use Rattle.drv_ring.specs.Asks.{transfer_at}
 use Rattle.drv_ring.specs.Changes.{ChangesWithin, area, table_area, buffer_area}
-use Rattle.drv_ring.proofs.Changed.{within-none, within-more, within-wider, within-kept, word-kept}
-use Rattle.drv_ring.proofs.Inside.{table-inside, buffer-inside}
-use Rattle.drv_ring.proofs.Others.{reads-kept}
+use Rattle.drv_ring.proofs.Changed.{within-none, within-more, within-wider, within-kept, reads-kept}
+use Rattle.drv_ring.proofs.Inside.{table-inside, buffer-inside, row-ends, row-before}
 
 -- the first `count` descriptors of the table
 pub record HasRows (layout : Layout) (tag blocks count : ℕ) (old new : Memory) : Type 0 where
-  pub written : (k : ℕ) → k < count → Reads new false (table_at layout tag + 8 * k) (Ok (transfer_at layout tag blocks k))
+  pub written : (k : ℕ) → k < count
+      → Reads new layout.wide (table_at layout tag + descriptor_size layout.wide * k) (Ok (transfer_at layout tag blocks k))
   pub within : ChangesWithin (table_area layout tag) old new
 
 pub rows-none : (layout : Layout) (tag blocks : ℕ) (memory : Memory) → HasRows layout tag blocks 0 memory memory
@@ -26,27 +26,33 @@ rows-none layout tag blocks memory = record {
 }
 
 pub row-inside : (layout : Layout) (tag blocks count k at : ℕ) (old new : Memory) → HasLayout old layout → tag < layout.depth
-    → HasRows layout tag blocks count old new → k < 512 → at ≡ table_at layout tag + 8 * k → HasRange new at 8
+    → HasRows layout tag blocks count old new → k < 256 → at ≡ table_at layout tag + descriptor_size layout.wide * k
+    → HasRange new at (descriptor_size layout.wide)
 row-inside layout tag blocks count k at old new held lt rows few is =
-    range-same_space old new at 8 rows.within.space (table-inside old layout tag at 8 held lt (omega arith) (omega arith))
+    let ends = row-ends layout k few in
+    range-same_space old new at (descriptor_size layout.wide) rows.within.space
+    (table-inside old layout tag at (descriptor_size layout.wide) held lt (omega arith) (omega arith))
 
-pub rows-more : (layout : Layout) (tag blocks k at : ℕ) (old middle new : Memory) → HasLayout old layout → tag < layout.depth → k < 512
-    → HasRows layout tag blocks k old middle → at ≡ table_at layout tag + 8 * k
-    → Reads new false at (Ok (transfer_at layout tag blocks k)) → ChangesWithin (area at 8) middle new
+pub rows-more : (layout : Layout) (tag blocks k at : ℕ) (old middle new : Memory) → HasLayout old layout → tag < layout.depth → k < 256
+    → HasRows layout tag blocks k old middle → at ≡ table_at layout tag + descriptor_size layout.wide * k
+    → Reads new layout.wide at (Ok (transfer_at layout tag blocks k)) → ChangesWithin (area at (descriptor_size layout.wide)) middle new
     → HasRows layout tag blocks (k + 1) old new
 rows-more layout tag blocks k at old middle new held lt few rows is reads change =
-    let P : ℕ → Type 0 = λ j. Reads new false (table_at layout tag + 8 * j) (Ok (transfer_at layout tag blocks j)) in
-    let At : ℕ → Type 0 = λ place. Reads new false place (Ok (transfer_at layout tag blocks k)) in
+    let size = descriptor_size layout.wide in
+    let ends = row-ends layout k few in
+    let P : ℕ → Type 0 = λ j. Reads new layout.wide (table_at layout tag + size * j) (Ok (transfer_at layout tag blocks j)) in
+    let At : ℕ → Type 0 = λ place. Reads new layout.wide place (Ok (transfer_at layout tag blocks k)) in
     record {
       written = below_more P k
           (λ j less.
-          let place = table_at layout tag + 8 * j in
-          let has : HasRange middle place 8 = row-inside layout tag blocks k j place old middle held lt rows (omega arith) refl in
-          reads-kept middle new place (Ok (transfer_at layout tag blocks j)) change.space
-          (word-kept at 8 middle new change place has (inr (omega arith))) (rows.written j less))
+          let place = table_at layout tag + size * j in
+          let before = row-before layout j k less in
+          let has : HasRange middle place size = row-inside layout tag blocks k j place old middle held lt rows (omega arith) refl in
+          reads-kept layout.wide middle new place (Ok (transfer_at layout tag blocks j)) change.space
+          (within-kept at size middle new change place size has (inr (omega arith))) (rows.written j less))
           (subst At is reads);
       within = within-more (table_area layout tag) old middle new rows.within
-          (within-wider (area at 8) (table_area layout tag) middle new (omega arith) (omega arith) change);
+          (within-wider (area at size) (table_area layout tag) middle new (omega arith) (omega arith) change);
     }
 
 -- the first `count` blocks of the buffer

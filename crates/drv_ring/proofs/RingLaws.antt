@@ -1,6 +1,6 @@
 -- What the layers above need of a tag's pieces: no two have a byte in common, and a write into them leaves what every slot asks
 -- for and what the other tags hold.
-use Rattle.std.proofs.Common.{◌≡◌, ◌≢◌, ℕ, ◌+◌, ◌*◌, ◌<◌, ◌≤◌, inr, Bool, List, [], get_or, map, refl, sym, ap, subst, ◌∙◌, arith}
+use Rattle.std.proofs.Common.{◌≡◌, ◌≢◌, ℕ, ◌+◌, ◌*◌, ◌<◌, ◌≤◌, inr, Bool, List, [], get_or, map, sym, ap, subst, ◌∙◌, arith}
 use Rattle.std.specs.Prelude.{All}
 use Rattle.std.specs.List.{range_with_len}
 use Rattle.std.proofs.lemmas.List.Elements.{All-nil, All-cons, All-head, All-map}
@@ -10,7 +10,7 @@ use Rattle.storage_model.specs.declared.block.Block.{Block}
 use Rattle.storage_model.specs.declared.plan.Job.{Job}
 use Rattle.storage_model.specs.declared.plan.Job.TheVariants.{Read, Write, Flush, Barrier, Status}
 use Rattle.cq_chain.specs.declared.pieces.Piece.{Piece}
-use Rattle.cq_chain.specs.Descriptors.{word_at}
+use Rattle.cq_chain.specs.Descriptors.{size_of as descriptor_size}
 use Rattle.cq_task.specs.Place.{place_of, chain_of}
 use Rattle.piece_data.specs.Data.{block_of, parts}
 use Rattle.piece_data.specs.Laws.{HasSameSpace, IsApart, AreApart, KeepsOthers}
@@ -20,8 +20,8 @@ use Rattle.drv_ring.specs.Layout.{list_of, table_at, buffer_at, HasLayout, IsTag
 use Rattle.drv_ring.specs.Pieces.{piece_count, piece_at, tag_pieces}
 use Rattle.drv_ring.specs.Asks.{Asks, HasBlocks, HoldsData}
 use Rattle.drv_ring.specs.Changes.{ChangesWithin, KeepsTag, area, buffer_area}
-use Rattle.drv_ring.proofs.Changed.{word-kept}
-use Rattle.drv_ring.proofs.Inside.{slot-inside, table-inside, buffer-inside, base-below, layout-same_space}
+use Rattle.drv_ring.proofs.Changed.{word-kept, within-kept}
+use Rattle.drv_ring.proofs.Inside.{slot-inside, table-inside, buffer-inside, base-below, layout-same_space, part-of, slot-ends, size-some, row-ends}
 use Rattle.drv_ring.proofs.Pieced.{block_of-pieces}
 use Rattle.drv_ring.proofs.Others.{SameWords, asks-kept}
 
@@ -62,23 +62,25 @@ pieces-within layout tag blocks first len old new few space others = record {
       (buffer-apart layout tag blocks range few (All-head (IsApart range) (buffer_area layout tag) [] apart)));
 }
 
-slot-word : (layout : Layout) (tag other d at : ℕ) (old new : Memory) → HasLayout old layout → other < 32
-    → ChangesWithin (buffer_area layout tag) old new → d + 8 ≤ 16 → at ≡ place_of (list_of layout) other + d → word_at new at ≡ word_at old at
-slot-word layout tag other d at old new held lt change within is =
-    let whole = slot-inside old layout other held lt in
-    let has : HasRange old at 8 = λ k less. let one = whole (d + k) (omega arith) in (omega (arith, one.0), omega (arith, one.1)) in
-    word-kept (buffer_at layout tag) 524288 old new change at has (inr (omega arith))
-
 buffer-words : (layout : Layout) (tag other : ℕ) (old new : Memory) → HasLayout old layout → other < 32
     → ChangesWithin (buffer_area layout tag) old new → SameWords layout other old new
 buffer-words layout tag other old new held lt change =
+    let size = descriptor_size layout.wide in
     let depth = held.depth in
+    let at = place_of (list_of layout) other in
+    let chain = chain_of (list_of layout) other in
+    let some = size-some layout in
+    let ends = slot-ends layout other lt in
+    let slot = slot-inside old layout other held lt in
     record {
-      first = slot-word layout tag other 0 (place_of (list_of layout) other) old new held lt change (omega arith) (omega arith);
-      second = slot-word layout tag other 8 (chain_of (list_of layout) other) old new held lt change (omega arith) refl;
+      first = word-kept (buffer_at layout tag) 524288 old new change at (part-of old at (2 * size) at 8 slot (omega arith) (omega arith)) (inr (omega arith));
+      second = within-kept (buffer_at layout tag) 524288 old new change chain size
+          (part-of old at (2 * size) chain size slot (omega arith) (omega arith)) (inr (omega arith));
       table = λ low k less.
-          let at = table_at layout other + 8 * k in
-          word-kept (buffer_at layout tag) 524288 old new change at (table-inside old layout other at 8 held low (omega arith) (omega arith))
+          let row = table_at layout other + size * k in
+          let last = row-ends layout k less in
+          within-kept (buffer_at layout tag) 524288 old new change row size
+          (table-inside old layout other row size held low (omega arith) (omega arith))
           (inr (omega arith));
     }
 

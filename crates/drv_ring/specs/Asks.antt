@@ -7,12 +7,12 @@ use Rattle.storage_model.specs.declared.plan.Job.TheVariants.{Read, Write, Flush
 use Rattle.storage_model.specs.Plan.{block_at}
 use Rattle.cq_desc.specs.declared.xfer.Xfer.{Xfer}
 use Rattle.cq_desc.specs.declared.xfer.Xfer.TheVariants.{Piece as Transfer, Link}
-use Rattle.cq_chain.specs.Descriptors.{Reads, word_at}
+use Rattle.cq_chain.specs.Descriptors.{Reads, word_at, size_of as descriptor_size}
 use Rattle.cq_task.specs.Place.{chain_of}
 use Rattle.cq_task.specs.Meaning.{Means}
 use Rattle.piece_data.specs.Data.{block_of}
 use Rattle.drv_ring.specs.declared.places.Layout.{Layout}
-use Rattle.drv_ring.specs.declared.places.TheConstants.{MOST_BLOCKS, DESCRIPTOR_BYTES}
+use Rattle.drv_ring.specs.declared.places.TheConstants.{MOST_BLOCKS}
 use Rattle.drv_ring.specs.Layout.{list_of, table_at, IsTagOf}
 use Rattle.drv_ring.specs.Pieces.{piece_count, piece_at, tag_pieces}
 use Rattle.drv_ring.specs.Task.{task_of}
@@ -25,8 +25,8 @@ transfer_at layout tag blocks k =
 -- the second half of the slot is a link to the tag's table, which has the descriptors of the pieces in order
 -- (cqhci_prep_tran_desc and setup_trans_desc of the Linux driver's cqhci-core.c)
 pub record HasChain (memory : Memory) (layout : Layout) (tag blocks : ℕ) : Type 0 where
-  pub link : Reads memory false (chain_of (list_of layout) tag) (Ok (Link (table_at layout tag)))
-  pub transfers : (k : ℕ) → k < piece_count blocks → Reads memory false (table_at layout tag + DESCRIPTOR_BYTES * k) (Ok (transfer_at layout tag blocks k))
+  pub link : Reads memory layout.wide (chain_of (list_of layout) tag) (Ok (Link (table_at layout tag)))
+  pub transfers : (k : ℕ) → k < piece_count blocks → Reads memory layout.wide (table_at layout tag + descriptor_size layout.wide * k) (Ok (transfer_at layout tag blocks k))
 
 -- behind a direct command there is nothing
 abbrev pub HasRest : Memory → Layout → (tag : ℕ) → Job → Type 0

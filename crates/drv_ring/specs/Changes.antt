@@ -1,14 +1,15 @@
 -- What a call changes of the memory, and what it leaves.
-use Rattle.std.specs.Prelude.{◌≡◌, ◌<◌, ◌≤◌, ℕ, Bool, List, [], ◌∷◌}
+use Rattle.std.specs.Prelude.{◌≡◌, ◌<◌, ◌≤◌, ℕ, ◌*◌, Bool, List, [], ◌∷◌}
 use Rattle.host_mem.specs.Memory.{Memory}
 use Rattle.storage_model.specs.declared.plan.Job.{Job}
 use Rattle.storage_model.specs.declared.plan.Job.TheVariants.{Read, Write}
 use Rattle.cq_chain.specs.declared.pieces.Piece.{Piece}
+use Rattle.cq_chain.specs.Descriptors.{size_of as descriptor_size}
 use Rattle.cq_task.specs.Place.{place_of}
 use Rattle.piece_data.specs.Data.{block_of}
 use Rattle.piece_data.specs.Laws.{HasSameSpace, KeepsOthers}
 use Rattle.drv_ring.specs.declared.places.Layout.{Layout}
-use Rattle.drv_ring.specs.declared.places.TheConstants.{MOST_BLOCKS, SLOT_BYTES, TABLE_BYTES, BUFFER_BYTES}
+use Rattle.drv_ring.specs.declared.places.TheConstants.{MOST_BLOCKS, TABLE_BYTES, BUFFER_BYTES}
 use Rattle.drv_ring.specs.Layout.{list_of, table_at, buffer_at}
 use Rattle.drv_ring.specs.Pieces.{tag_pieces}
 use Rattle.drv_ring.specs.Asks.{Asks}
@@ -22,7 +23,7 @@ pub record ChangesWithin (range : Piece) (old new : Memory) : Type 0 where
   pub others : KeepsOthers (range ∷ []) old new
 
 abbrev pub slot_area : Layout → ℕ → Piece
-slot_area layout tag = area (place_of (list_of layout) tag) SLOT_BYTES
+slot_area layout tag = area (place_of (list_of layout) tag) (2 * descriptor_size layout.wide)
 
 abbrev pub table_area : Layout → ℕ → Piece
 table_area layout tag = area (table_at layout tag) TABLE_BYTES

@@ -9,9 +9,9 @@ use Rattle.cq_task.specs.declared.list.TheConstants.{DIRECT_SLOT}
 use Rattle.drv_ring.specs.declared.places.Layout.{Layout}
 use Rattle.drv_ring.specs.declared.places.TheConstants.{MOST_DEPTH, FIRST_TABLE, TABLE_BYTES, FIRST_BUFFER, BUFFER_BYTES}
 
--- the list of the slots: descriptors of 64 bits, and direct commands in slot 31
+-- the list of the slots, with direct commands in slot 31
 abbrev pub list_of : Layout → TaskList
-list_of layout = record { base = layout.base; wide = false; direct = true }
+list_of layout = record { base = layout.base; wide = layout.wide; direct = true }
 
 -- the transfer descriptors of a tag
 abbrev pub table_at : Layout → ℕ → ℕ
@@ -24,10 +24,11 @@ buffer_at layout tag = layout.base + FIRST_BUFFER + BUFFER_BYTES * tag
 abbrev pub size_of : Layout → ℕ
 size_of layout = FIRST_BUFFER + BUFFER_BYTES * layout.depth
 
--- the memory has each byte of the layout, which ends at or below 2^32
+-- the memory has each byte of the layout, which ends at or below 2^32 where its descriptors are of 64 bits
 pub record HasLayout (memory : Memory) (layout : Layout) : Type 0 where
   pub depth : layout.depth ≤ MOST_DEPTH
-  pub below : layout.base + size_of layout ≤ 2 ^ 32
+  pub below : layout.base + size_of layout < 2 ^ 64
+  pub narrow : layout.wide ≡ false → layout.base + size_of layout ≤ 2 ^ 32
   pub inside : HasRange memory layout.base (size_of layout)
 
 -- a read or write has a tag below the depth, and any other job the slot of direct commands

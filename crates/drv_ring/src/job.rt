@@ -1,5 +1,5 @@
 // A job at the places of its tag.
-ghost use Rattle.std.specs.Prelude.{◌≡◌, ◌≢◌, ◌<◌, ◌≤◌, ℕ, [], ◌∷◌, false, Ok};
+ghost use Rattle.std.specs.Prelude.{◌≡◌, ◌≢◌, ◌<◌, ◌≤◌, ℕ, [], ◌∷◌, Ok};
 ghost use Rattle.storage_model.specs.Plan.{IsFillListed, IsValidJob, block_at};
 ghost use Rattle.cq_desc.specs.Direct.{IsDirectInRange, direct_read};
 ghost use Rattle.cq_desc.specs.Task.{task_read};
@@ -14,9 +14,9 @@ ghost use Rattle.drv_ring.specs.Asks.{Asks, HasChain, HoldsData};
 ghost use Rattle.drv_ring.specs.Changes.{ChangesWithin, KeepsTag, areas_of, buffer_area, slot_area, table_area};
 
 use crate::Layout;
-use crate::places::{DESCRIPTOR_BYTES, MOST_BLOCKS};
+use crate::places::MOST_BLOCKS;
 use crate::task::{FLUSH_CACHE, SET_BARRIER, read_desc, status_desc, switch_desc, write_desc};
-use crate::words::{write_descriptor, write_word};
+use crate::words::{write_descriptor, write_words};
 use cq_desc::{DirectDesc, TaskDesc, Xfer, write_direct, write_task};
 use cq_task::SLOTS;
 use host_mem::HostMem;
@@ -98,15 +98,15 @@ impl Layout {
         requires tag { tag < self.now.depth }
         requires context { desc.now.context < 16 }
         ensures word { task_read (first_word mem.new (list_of self.now) tag) ≡ Ok desc.now }
-        ensures link { Reads mem.new false (chain_of (list_of self.now) tag) (Ok (Link (table_at self.now tag))) }
+        ensures link { Reads mem.new self.now.wide (chain_of (list_of self.now) tag) (Ok (Link (table_at self.now tag))) }
         ensures within { ChangesWithin (slot_area self.now tag) mem.old mem.new }
     {
         let slot = self.slot_at(tag);
         let link = Xfer::Link {
             at: self.table_at(tag),
         };
-        write_word(mem, slot, write_task(desc));
-        write_descriptor(mem, slot + DESCRIPTOR_BYTES, &link);
+        write_words(mem, slot, write_task(desc), 0, self.wide);
+        write_descriptor(mem, slot + self.descriptor_size(), &link, self.wide);
     }
 
     /// Writes the slot of a direct command, with nothing in its second half.
@@ -119,7 +119,7 @@ impl Layout {
         ensures within { ChangesWithin (slot_area self.now tag) mem.old mem.new }
     {
         let slot = self.slot_at(tag);
-        write_word(mem, slot, write_direct(desc));
-        write_word(mem, slot + DESCRIPTOR_BYTES, 0);
+        write_words(mem, slot, write_direct(desc), 0, self.wide);
+        write_words(mem, slot + self.descriptor_size(), 0, 0, self.wide);
     }
 }

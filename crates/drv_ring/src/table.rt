@@ -1,13 +1,13 @@
 // The chain of a tag: its table of transfer descriptors.
-ghost use Rattle.std.specs.Prelude.{◌≡◌, ◌+◌, ◌*◌, ◌<◌, ◌≤◌, ◌^◌, ℕ, false, Ok};
-ghost use Rattle.cq_chain.specs.Descriptors.{Reads};
-ghost use Rattle.drv_ring.specs.Layout.{HasLayout, table_at};
+ghost use Rattle.std.specs.Prelude.{◌≡◌, ◌+◌, ◌*◌, ◌<◌, ◌≤◌, ◌^◌, ℕ, Ok};
+ghost use Rattle.cq_chain.specs.Descriptors.{Reads, size_of as descriptor_size};
+ghost use Rattle.drv_ring.specs.Layout.{HasLayout, size_of, table_at};
 ghost use Rattle.drv_ring.specs.Pieces.{piece_at, piece_count};
 ghost use Rattle.drv_ring.specs.Asks.{transfer_at};
 ghost use Rattle.drv_ring.specs.Changes.{ChangesWithin, table_area};
 
 use crate::Layout;
-use crate::places::{DESCRIPTOR_BYTES, MOST_BLOCKS};
+use crate::places::MOST_BLOCKS;
 use crate::words::write_descriptor;
 use cq_chain::Piece;
 use cq_desc::Xfer;
@@ -25,7 +25,9 @@ fn piece_count(blocks: u16) -> u32
 impl Layout {
     /// Piece `k` of the data of a tag with so many blocks.
     fn piece_at(&self, tag: u8, blocks: u16, k: u32) -> Piece
-        requires base { self.now.base ≤ 2 ^ 32 }
+        requires room { self.now.base + size_of self.now < 2 ^ 64 }
+        requires tag { tag < self.now.depth }
+        requires blocks { blocks ≤ MOST_BLOCKS }
         requires within { k < piece_count blocks }
         ensures { result ≡ piece_at self.now tag blocks k }
     {
@@ -38,7 +40,9 @@ impl Layout {
 
     /// The descriptor of piece `k`.
     fn transfer_at(&self, tag: u8, blocks: u16, k: u32) -> Xfer
-        requires base { self.now.base ≤ 2 ^ 32 }
+        requires room { self.now.base + size_of self.now < 2 ^ 64 }
+        requires tag { tag < self.now.depth }
+        requires blocks { blocks ≤ MOST_BLOCKS }
         requires within { k < piece_count blocks }
         ensures { result ≡ transfer_at self.now tag blocks k }
     {
@@ -56,13 +60,14 @@ impl Layout {
         requires layout { HasLayout mem.old self.now }
         requires tag { tag < self.now.depth }
         requires blocks { blocks ≤ MOST_BLOCKS }
-        ensures written { (k : ℕ) → k < piece_count blocks → Reads mem.new false (table_at self.now tag + DESCRIPTOR_BYTES * k) (Ok (transfer_at self.now tag blocks k)) }
+        ensures written { (k : ℕ) → k < piece_count blocks → Reads mem.new self.now.wide (table_at self.now tag + descriptor_size self.now.wide * k) (Ok (transfer_at self.now tag blocks k)) }
         ensures within { ChangesWithin (table_area self.now tag) mem.old mem.new }
     {
         let table = self.table_at(tag);
+        let size = self.descriptor_size();
         for k in 0..piece_count(blocks) {
             let xfer = self.transfer_at(tag, blocks, k);
-            write_descriptor(mem, table + DESCRIPTOR_BYTES * u64::from(k), &xfer);
+            write_descriptor(mem, table + size * u64::from(k), &xfer, self.wide);
         }
     }
 }

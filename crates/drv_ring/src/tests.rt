@@ -36,7 +36,7 @@ fn has_bytes(mem: &HostMem, at: u64, wanted: &[u8]) -> bool {
 
 #[test]
 fn a_write_of_one_block(rt: HostRuntime) {
-    let layout = Layout::new(BASE, 2);
+    let layout = Layout::new(BASE, 2, false);
     assert!(rt; layout.size() == 131_072 + 2 * 524_288);
     let Ok(mut mem) = HostMem::start(rt.alloc(), BASE, layout.size()) else {
         panic!(rt; "no memory");
@@ -61,7 +61,7 @@ fn a_write_of_one_block(rt: HostRuntime) {
 
 #[test]
 fn a_read_in_two_pieces(rt: HostRuntime) {
-    let layout = Layout::new(BASE, 2);
+    let layout = Layout::new(BASE, 2, false);
     let Ok(mut mem) = HostMem::start(rt.alloc(), BASE, layout.size()) else {
         panic!(rt; "no memory");
     };
@@ -90,7 +90,7 @@ fn a_read_in_two_pieces(rt: HostRuntime) {
 
 #[test]
 fn the_direct_commands(rt: HostRuntime) {
-    let layout = Layout::new(BASE, 1);
+    let layout = Layout::new(BASE, 1, false);
     let Ok(mut mem) = HostMem::start(rt.alloc(), BASE, layout.size()) else {
         panic!(rt; "no memory");
     };
@@ -121,7 +121,7 @@ fn write_two(layout: &Layout, mem: &mut HostMem, plan: &Plan, first: &Job, secon
 
 #[test]
 fn two_tags(rt: HostRuntime) {
-    let layout = Layout::new(BASE, 2);
+    let layout = Layout::new(BASE, 2, false);
     let Ok(mut mem) = HostMem::start(rt.alloc(), BASE, layout.size()) else {
         panic!(rt; "no memory");
     };
@@ -154,4 +154,30 @@ fn two_tags(rt: HostRuntime) {
     layout.read_block(&mem, 1, 1023, &mut block);
     assert!(rt; block.0[0] == 228);
     assert!(rt; block.0[1] == 235);
+}
+
+#[test]
+fn descriptors_of_16_bytes(rt: HostRuntime) {
+    let base = 0x1_2000_0000;
+    let layout = Layout::new(base, 1, true);
+    let Ok(mut mem) = HostMem::start(rt.alloc(), base, layout.size()) else {
+        panic!(rt; "no memory");
+    };
+    let plan = plan_of(rt.alloc());
+    let job = Job::Read {
+        sector: 0,
+        blocks: 200,
+        high: false,
+    };
+    layout.write_job(&mut mem, 0, &job, &plan, true);
+    let link = [0x31, 0, 0, 0, 0, 4, 0, 0x20, 1, 0, 0, 0, 0, 0, 0, 0];
+    assert!(rt; has_bytes(&mem, base + 16, &link));
+    let last = [0x23, 0, 0, 0x90, 0, 0, 3, 0x20, 1, 0, 0, 0, 0, 0, 0, 0];
+    assert!(rt; has_bytes(&mem, base + 0x410, &last));
+    layout.write_job(&mut mem, 31, &Job::Flush, &plan, true);
+    assert!(rt; has_bytes(&mem, base + 0x3e0, &[0x2f, 0x40, 0x86, 1, 1, 1, 0x20, 3]));
+    match read_slot(&mem, layout.list(), 0) {
+        Ok(SlotTask::Data(task)) => assert!(rt; task.pieces.len() == 2),
+        _ => panic!(rt; "no data task"),
+    }
 }

@@ -1,8 +1,8 @@
 // Bytes, words and descriptors in memory that is there.
-ghost use Rattle.std.specs.Prelude.{◌≡◌, ◌+◌, ◌<◌, ◌≤◌, ◌^◌, length, false, Ok};
+ghost use Rattle.std.specs.Prelude.{◌≡◌, ◌+◌, ◌<◌, ◌≤◌, ◌^◌, length, true, Ok};
 ghost use Rattle.host_mem.specs.Memory.{HasRange, bytes_of};
 ghost use Rattle.cq_desc.specs.Transfer.{IsXferInRange};
-ghost use Rattle.cq_chain.specs.Descriptors.{Reads, word_at};
+ghost use Rattle.cq_chain.specs.Descriptors.{Reads, size_of, word_at};
 ghost use Rattle.drv_ring.specs.Changes.{ChangesWithin, area};
 
 use cq_desc::{Xfer, write_xfer};
@@ -32,13 +32,28 @@ pub(crate) fn write_word(mem: &mut HostMem, at: u64, word: u64)
     write_bytes(mem, at, &bytes);
 }
 
-/// Writes a transfer descriptor of 64 bits at an address.
-pub(crate) fn write_descriptor(mem: &mut HostMem, at: u64, xfer: &Xfer)
-    requires inside { HasRange mem.old at 8 }
-    requires fits { IsXferInRange false xfer.now }
-    ensures written { Reads mem.new false at (Ok xfer.now) }
-    ensures within { ChangesWithin (area at 8) mem.old mem.new }
+/// Writes the words of a descriptor at an address: the low word alone, or both where it is `wide`.
+pub(crate) fn write_words(mem: &mut HostMem, at: u64, low: u64, high: u64, wide: bool)
+    requires inside { HasRange mem.old at (size_of wide) }
+    requires below { at + 8 < 2 ^ 64 }
+    ensures low { word_at mem.new at ≡ low }
+    ensures high { wide ≡ true → word_at mem.new (at + 8) ≡ high }
+    ensures within { ChangesWithin (area at (size_of wide)) mem.old mem.new }
 {
-    let (low, _) = write_xfer(xfer, false);
     write_word(mem, at, low);
+    if wide {
+        write_word(mem, at + 8, high);
+    }
+}
+
+/// Writes a transfer descriptor at an address.
+pub(crate) fn write_descriptor(mem: &mut HostMem, at: u64, xfer: &Xfer, wide: bool)
+    requires inside { HasRange mem.old at (size_of wide) }
+    requires below { at + 8 < 2 ^ 64 }
+    requires fits { IsXferInRange wide xfer.now }
+    ensures written { Reads mem.new wide at (Ok xfer.now) }
+    ensures within { ChangesWithin (area at (size_of wide)) mem.old mem.new }
+{
+    let (low, high) = write_xfer(xfer, wide);
+    write_words(mem, at, low, high, wide);
 }

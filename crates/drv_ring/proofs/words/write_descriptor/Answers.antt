@@ -1,17 +1,16 @@
-use Rattle.std.proofs.Common.{ap, sym, ◌∙◌, false}
-use Rattle.cq_desc.specs.Transfer.{xfer_read}
-use Rattle.cq_chain.specs.Descriptors.{descriptor_at}
+use Rattle.std.proofs.Common.{◌≡◌, ℕ, Bool, false, if◌then◌else◌, ap, ◌∙◌}
+use Rattle.cq_chain.specs.Descriptors.{size_of}
 use Rattle.piece_data.proofs.Kept.{range-same_space}
+use Rattle.drv_ring.proofs.Changed.{reads-written}
 use Rattle.drv_ring.proofs.words.write_descriptor.Goals as goal
 
+none-high : {wide : Bool} → wide ≡ false → (high : ℕ) → (if wide then high else 0) ≡ 0
+none-high e high = ap (λ b. if b then high else 0) e
+
 pub returns-clause-written : goal.returns-clause-written
-unfolding descriptor_at
 returns-clause-written c =
     let words = c.write_xfer-low in
-    record {
-      inside = range-same_space c.args.mem.now c.write_word.new.mem c.args.at 8 c.write_word.ensures.within.space c.requires.inside;
-      value =
-          ap (λ word. xfer_read word 0 false) c.write_word.ensures.written
-          ∙ ap (λ high. xfer_read words.result.0 high false) (sym words.ensures.high)
-          ∙ words.ensures.read_again c.requires.fits;
-    }
+    let written = c.write_words in
+    reads-written c.args.wide written.new.mem c.args.at words.result.0 words.result.1 c.args.xfer.now
+    (range-same_space c.args.mem.now written.new.mem c.args.at (size_of c.args.wide) written.ensures.within.space c.requires.inside)
+    written.ensures.low written.ensures.high (λ e. words.ensures.high ∙ none-high e _) (words.ensures.read_again c.requires.fits)

@@ -1,26 +1,23 @@
-use Rattle.std.proofs.Common.{ap, sym, subst, ◌∙◌, ℕ}
-use Rattle.host_mem.specs.Memory.{HasRange}
+use Rattle.std.proofs.Common.{ap, ◌∙◌}
 use Rattle.cq_desc.specs.Direct.{direct_read}
-use Rattle.cq_chain.specs.Descriptors.{word_at}
-use Rattle.drv_ring.specs.Changes.{ChangesWithin, area}
-use Rattle.drv_ring.proofs.Changed.{pair-first, pair-within}
-use Rattle.drv_ring.proofs.Inside.{slot-inside}
+use Rattle.drv_ring.proofs.Placed.{slot-first, slot-within}
 use Rattle.drv_ring.proofs.places.Layout.write_direct_task.Goals as goal
 
 pub returns-clause-word : goal.returns-clause-word
 returns-clause-word c =
-    let slot = c.slot_at-slot.result in
-    let is = c.slot_at-slot.ensures in
-    let P : ℕ → Type 0 = λ at. HasRange c.args.mem.now at 16 in
-    let inside : HasRange c.args.mem.now slot 16 = subst P (sym is) (slot-inside c.args.mem.now c.args.self.now c.args.tag c.requires.layout c.requires.tag) in
+    let a = c.args in
+    let first = c.write_words in
+    let second = c.write_words-2 in
     ap direct_read
-    (ap (word_at c.write_word-2.new.mem) (sym is)
-    ∙ pair-first c.args.mem.now c.write_word.new.mem c.write_word-2.new.mem slot inside c.write_word.ensures.within c.write_word-2.ensures.within
-    ∙ c.write_word.ensures.written)
+    (slot-first a.self.now a.tag c.slot_at-slot.result c.descriptor_size.result a.mem.now first.new.mem second.new.mem c.requires.layout c.requires.tag
+    c.slot_at-slot.ensures c.descriptor_size.ensures first.ensures.within second.ensures.within
+    ∙ first.ensures.low)
     ∙ c.write_direct.ensures.read_again c.requires.range
 
 pub returns-clause-within : goal.returns-clause-within
 returns-clause-within c =
-    let P : ℕ → Type 0 = λ at. ChangesWithin (area at 16) c.args.mem.now c.write_word-2.new.mem in
-    subst P c.slot_at-slot.ensures
-    (pair-within c.args.mem.now c.write_word.new.mem c.write_word-2.new.mem c.slot_at-slot.result c.write_word.ensures.within c.write_word-2.ensures.within)
+    let a = c.args in
+    let first = c.write_words in
+    let second = c.write_words-2 in
+    slot-within a.self.now a.tag c.slot_at-slot.result c.descriptor_size.result a.mem.now first.new.mem second.new.mem
+    c.slot_at-slot.ensures c.descriptor_size.ensures first.ensures.within second.ensures.within
