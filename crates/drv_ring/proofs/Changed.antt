@@ -133,7 +133,7 @@ unfolding word_at
 high-word memory at low = ap (little_number 8) (bytes_of-part memory at 16 8 8 low (omega arith))
 
 -- the low word of a descriptor whose bytes stay
-pub low-same : (wide : Bool) (old new : Memory) (at : ℕ) → HasSameSpace old new → HasRange old at (size_of wide)
+low-same : (wide : Bool) (old new : Memory) (at : ℕ) → HasSameSpace old new → HasRange old at (size_of wide)
     → bytes_of new at (size_of wide) ≡ bytes_of old at (size_of wide) → word_at new at ≡ word_at old at
 low-same false old new at space inside e = word-same old new at e
 low-same true old new at space inside e =

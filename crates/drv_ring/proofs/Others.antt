@@ -18,7 +18,7 @@ use Rattle.drv_ring.specs.Layout.{list_of, table_at, buffer_at, HasLayout, IsTag
 use Rattle.drv_ring.specs.Pieces.{tag_pieces}
 use Rattle.drv_ring.specs.Asks.{Asks, HasBlocks, HasChain, HasRest, transfer_at}
 use Rattle.drv_ring.specs.Changes.{KeepsTag, area, areas_of, slot_area, table_area, buffer_area}
-use Rattle.drv_ring.proofs.Changed.{word-same, low-same, reads-kept}
+use Rattle.drv_ring.proofs.Changed.{word-same, reads-kept}
 use Rattle.drv_ring.proofs.Inside.{layout-same_space, slot-inside, table-inside, buffer-inside, base-below, part-of, shape, slot-ends, size-some, row-ends}
 use Rattle.drv_ring.proofs.Pieced.{block_of-pieces}
 use Rattle.drv_ring.proofs.Meant.{HasWord, asks-from, asks-word}
@@ -47,23 +47,15 @@ word-kept layout tag Flush int old new same word = ap direct_read same.first ∙
 word-kept layout tag Barrier int old new same word = ap direct_read same.first ∙ word
 word-kept layout tag Status int old new same word = ap direct_read same.first ∙ word
 
-chain-word : (layout : Layout) (tag : ℕ) (old new : Memory) → HasLayout old layout → tag ≡ 31 → HasSameSpace old new → SameWords layout tag old new
-    → word_at new (chain_of (list_of layout) tag) ≡ word_at old (chain_of (list_of layout) tag)
-chain-word layout tag old new held is space same =
-    low-same layout.wide old new (chain_of (list_of layout) tag) space
-    (part-of old (place_of (list_of layout) tag) (2 * descriptor_size layout.wide) (chain_of (list_of layout) tag) (descriptor_size layout.wide)
-    (slot-inside old layout tag held (omega arith)) (omega arith) (omega arith))
-    same.second
-
-rest-kept : (layout : Layout) (tag : ℕ) (job : Job) (old new : Memory) → HasLayout old layout → HasSameSpace old new → SameWords layout tag old new
+rest-kept : (layout : Layout) (tag : ℕ) (job : Job) (old new : Memory) → HasSameSpace old new → SameWords layout tag old new
     → IsTagOf layout tag job → HasBlocks job → HasRest old layout tag job → HasRest new layout tag job
-rest-kept layout tag (Read sector blocks high) old new held space same fits few rest =
+rest-kept layout tag (Read sector blocks high) old new space same fits few rest =
     chain-kept layout tag blocks old new space same fits few.1 rest
-rest-kept layout tag (Write sector blocks fill forced reliable high) old new held space same fits few rest =
+rest-kept layout tag (Write sector blocks fill forced reliable high) old new space same fits few rest =
     chain-kept layout tag blocks old new space same fits few.1 rest
-rest-kept layout tag Flush old new held space same fits few rest = chain-word layout tag old new held fits space same ∙ rest
-rest-kept layout tag Barrier old new held space same fits few rest = chain-word layout tag old new held fits space same ∙ rest
-rest-kept layout tag Status old new held space same fits few rest = chain-word layout tag old new held fits space same ∙ rest
+rest-kept layout tag Flush old new space same fits few rest = same.second ∙ rest
+rest-kept layout tag Barrier old new space same fits few rest = same.second ∙ rest
+rest-kept layout tag Status old new space same fits few rest = same.second ∙ rest
 
 -- a slot asks for the same while the words of its tag are the same
 pub asks-kept : (layout : Layout) (tag : ℕ) (job : Job) (int : Bool) (old new : Memory) → HasLayout old layout → HasSameSpace old new
@@ -71,7 +63,7 @@ pub asks-kept : (layout : Layout) (tag : ℕ) (job : Job) (int : Bool) (old new 
 asks-kept layout tag job int old new held space same asks =
     asks-from new layout tag job int (layout-same_space old new layout space held) asks.tag_fits asks.blocks_fit
     (word-kept layout tag job int old new same (asks-word old layout tag job int held.depth asks))
-    (rest-kept layout tag job old new held space same asks.tag_fits asks.blocks_fit asks.rest)
+    (rest-kept layout tag job old new space same asks.tag_fits asks.blocks_fit asks.rest)
 
 two-apart : (range slot table : Piece) → IsApart range slot → IsApart range table → All (IsApart range) (slot ∷ table ∷ [])
 two-apart range slot table a b = All-cons (IsApart range) slot (table ∷ []) a (All-cons (IsApart range) table [] b (All-nil (IsApart range)))

@@ -1,13 +1,13 @@
 -- When a slot asks for a job, and when the buffer of a tag holds what a write is to write.
-use Rattle.std.specs.Prelude.{◌≡◌, ◌<◌, ◌≤◌, ℕ, ◌+◌, ◌*◌, ◌==◌, Bool, false, List, Ok}
-use Rattle.host_mem.specs.Memory.{Memory}
+use Rattle.std.specs.Prelude.{◌≡◌, ◌<◌, ◌≤◌, ℕ, ◌+◌, ◌*◌, ◌==◌, Bool, false, List, Ok, replicate}
+use Rattle.host_mem.specs.Memory.{Memory, bytes_of}
 use Rattle.storage_model.specs.declared.block.Block.{Block}
 use Rattle.storage_model.specs.declared.plan.Job.{Job}
 use Rattle.storage_model.specs.declared.plan.Job.TheVariants.{Read, Write, Flush, Barrier, Status}
 use Rattle.storage_model.specs.Plan.{block_at}
 use Rattle.cq_desc.specs.declared.xfer.Xfer.{Xfer}
 use Rattle.cq_desc.specs.declared.xfer.Xfer.TheVariants.{Piece as Transfer, Link}
-use Rattle.cq_chain.specs.Descriptors.{Reads, word_at, size_of as descriptor_size}
+use Rattle.cq_chain.specs.Descriptors.{Reads, size_of as descriptor_size}
 use Rattle.cq_task.specs.Place.{chain_of}
 use Rattle.cq_task.specs.Meaning.{Means}
 use Rattle.piece_data.specs.Data.{block_of}
@@ -28,13 +28,18 @@ pub record HasChain (memory : Memory) (layout : Layout) (tag blocks : ℕ) : Typ
   pub link : Reads memory layout.wide (chain_of (list_of layout) tag) (Ok (Link (table_at layout tag)))
   pub transfers : (k : ℕ) → k < piece_count blocks → Reads memory layout.wide (table_at layout tag + descriptor_size layout.wide * k) (Ok (transfer_at layout tag blocks k))
 
--- behind a direct command there is nothing
+-- behind a direct command the slot's bytes are 0
+abbrev pub HasNothing : Memory → Layout → (tag : ℕ) → Type 0
+HasNothing memory layout tag =
+    bytes_of memory (chain_of (list_of layout) tag) (descriptor_size layout.wide) ≡ replicate (descriptor_size layout.wide) 0
+
+-- what stands behind the first descriptor of the slot
 abbrev pub HasRest : Memory → Layout → (tag : ℕ) → Job → Type 0
 HasRest memory layout tag (Read sector blocks high) = HasChain memory layout tag blocks
 HasRest memory layout tag (Write sector blocks fill forced reliable high) = HasChain memory layout tag blocks
-HasRest memory layout tag Flush = word_at memory (chain_of (list_of layout) tag) ≡ 0
-HasRest memory layout tag Barrier = word_at memory (chain_of (list_of layout) tag) ≡ 0
-HasRest memory layout tag Status = word_at memory (chain_of (list_of layout) tag) ≡ 0
+HasRest memory layout tag Flush = HasNothing memory layout tag
+HasRest memory layout tag Barrier = HasNothing memory layout tag
+HasRest memory layout tag Status = HasNothing memory layout tag
 
 -- a read or write has 1 to 1,024 blocks
 abbrev pub HasBlocks : Job → Type 0

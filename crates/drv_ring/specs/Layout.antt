@@ -24,10 +24,14 @@ buffer_at layout tag = layout.base + FIRST_BUFFER + BUFFER_BYTES * tag
 abbrev pub size_of : Layout → ℕ
 size_of layout = FIRST_BUFFER + BUFFER_BYTES * layout.depth
 
+-- the addresses of the layout are numbers of 64 bits
+abbrev pub HasAddresses : Layout → Type 0
+HasAddresses layout = layout.base + size_of layout < 2 ^ 64
+
 -- the memory has each byte of the layout, which ends at or below 2^32 where its descriptors are of 64 bits
 pub record HasLayout (memory : Memory) (layout : Layout) : Type 0 where
   pub depth : layout.depth ≤ MOST_DEPTH
-  pub below : layout.base + size_of layout < 2 ^ 64
+  pub below : HasAddresses layout
   pub narrow : layout.wide ≡ false → layout.base + size_of layout ≤ 2 ^ 32
   pub inside : HasRange memory layout.base (size_of layout)
 

@@ -3,7 +3,7 @@ ghost use Rattle.std.specs.Prelude.{◌≡◌, ◌+◌, ◌*◌, ◌<◌, ◌≤
 ghost use Rattle.storage_model.specs.Plan.{IsFillListed, block_at};
 ghost use Rattle.host_mem.specs.Memory.{bytes_of};
 ghost use Rattle.piece_data.specs.Data.{block_of};
-ghost use Rattle.drv_ring.specs.Layout.{HasLayout, buffer_at, size_of};
+ghost use Rattle.drv_ring.specs.Layout.{HasAddresses, HasLayout, buffer_at};
 ghost use Rattle.drv_ring.specs.Pieces.{tag_pieces};
 ghost use Rattle.drv_ring.specs.Changes.{ChangesWithin, buffer_area};
 
@@ -17,7 +17,7 @@ use storage_model::{Block, Fill, Plan, block_of};
 impl Layout {
     /// Where block `k` of the data of a tag stands.
     fn block_at(&self, tag: u8, k: u16) -> u64
-        requires room { self.now.base + size_of self.now < 2 ^ 64 }
+        requires room { HasAddresses self.now }
         requires tag { tag < self.now.depth }
         requires within { k < MOST_BLOCKS }
         ensures { result ≡ buffer_at self.now tag + 512 * k }

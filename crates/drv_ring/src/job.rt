@@ -4,19 +4,19 @@ ghost use Rattle.storage_model.specs.Plan.{IsFillListed, IsValidJob, block_at};
 ghost use Rattle.cq_desc.specs.Direct.{IsDirectInRange, direct_read};
 ghost use Rattle.cq_desc.specs.Task.{task_read};
 ghost use Rattle.cq_desc.specs.declared.xfer.Xfer.TheVariants.{Link};
-ghost use Rattle.cq_chain.specs.Descriptors.{Reads, word_at};
+ghost use Rattle.cq_chain.specs.Descriptors.{Reads};
 ghost use Rattle.cq_task.specs.Place.{chain_of, first_word};
 ghost use Rattle.piece_data.specs.Data.{block_of};
 ghost use Rattle.piece_data.specs.Laws.{HasSameSpace, KeepsOthers};
 ghost use Rattle.drv_ring.specs.Layout.{HasLayout, IsTagOf, list_of, table_at};
 ghost use Rattle.drv_ring.specs.Pieces.{tag_pieces};
-ghost use Rattle.drv_ring.specs.Asks.{Asks, HasChain, HoldsData};
+ghost use Rattle.drv_ring.specs.Asks.{Asks, HasChain, HasNothing, HoldsData};
 ghost use Rattle.drv_ring.specs.Changes.{ChangesWithin, KeepsTag, areas_of, buffer_area, slot_area, table_area};
 
 use crate::Layout;
 use crate::places::MOST_BLOCKS;
 use crate::task::{FLUSH_CACHE, SET_BARRIER, read_desc, status_desc, switch_desc, write_desc};
-use crate::words::{write_descriptor, write_words};
+use crate::words::{write_descriptor, write_nothing, write_words};
 use cq_desc::{DirectDesc, TaskDesc, Xfer, write_direct, write_task};
 use cq_task::SLOTS;
 use host_mem::HostMem;
@@ -115,11 +115,11 @@ impl Layout {
         requires tag { tag < SLOTS }
         requires range { IsDirectInRange desc.now }
         ensures word { direct_read (first_word mem.new (list_of self.now) tag) ≡ Ok desc.now }
-        ensures rest { word_at mem.new (chain_of (list_of self.now) tag) ≡ 0 }
+        ensures rest { HasNothing mem.new self.now tag }
         ensures within { ChangesWithin (slot_area self.now tag) mem.old mem.new }
     {
         let slot = self.slot_at(tag);
         write_words(mem, slot, write_direct(desc), 0, self.wide);
-        write_words(mem, slot + self.descriptor_size(), 0, 0, self.wide);
+        write_nothing(mem, slot + self.descriptor_size(), self.wide);
     }
 }

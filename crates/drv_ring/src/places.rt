@@ -1,7 +1,7 @@
 ghost use Rattle.std.specs.Prelude.{◌≡◌, ◌+◌, ◌*◌, ◌<◌, ◌≤◌, ◌^◌};
 ghost use Rattle.cq_chain.specs.Descriptors.{size_of as descriptor_size};
 ghost use Rattle.cq_task.specs.Place.{place_of};
-ghost use Rattle.drv_ring.specs.Layout.{buffer_at, list_of, size_of, table_at};
+ghost use Rattle.drv_ring.specs.Layout.{HasAddresses, buffer_at, list_of, size_of, table_at};
 
 use cq_task::{SLOTS, TaskList};
 
@@ -70,7 +70,7 @@ impl Layout {
 
     /// The address of a slot.
     pub(crate) fn slot_at(&self, tag: u8) -> u64
-        requires room { self.now.base + size_of self.now < 2 ^ 64 }
+        requires room { HasAddresses self.now }
         requires tag { tag < SLOTS }
         ensures { result ≡ place_of (list_of self.now) tag }
     {
@@ -80,7 +80,7 @@ impl Layout {
 
     /// The address of a tag's table.
     pub(crate) fn table_at(&self, tag: u8) -> u64
-        requires room { self.now.base + size_of self.now < 2 ^ 64 }
+        requires room { HasAddresses self.now }
         requires tag { tag < self.now.depth }
         ensures { result ≡ table_at self.now tag }
     {
@@ -89,7 +89,7 @@ impl Layout {
 
     /// The address of a tag's buffer.
     pub(crate) fn buffer_at(&self, tag: u8) -> u64
-        requires room { self.now.base + size_of self.now < 2 ^ 64 }
+        requires room { HasAddresses self.now }
         requires tag { tag < self.now.depth }
         ensures { result ≡ buffer_at self.now tag }
     {

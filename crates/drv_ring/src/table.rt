@@ -1,7 +1,7 @@
 // The chain of a tag: its table of transfer descriptors.
 ghost use Rattle.std.specs.Prelude.{◌≡◌, ◌+◌, ◌*◌, ◌<◌, ◌≤◌, ◌^◌, ℕ, Ok};
 ghost use Rattle.cq_chain.specs.Descriptors.{Reads, size_of as descriptor_size};
-ghost use Rattle.drv_ring.specs.Layout.{HasLayout, size_of, table_at};
+ghost use Rattle.drv_ring.specs.Layout.{HasAddresses, HasLayout, table_at};
 ghost use Rattle.drv_ring.specs.Pieces.{piece_at, piece_count};
 ghost use Rattle.drv_ring.specs.Asks.{transfer_at};
 ghost use Rattle.drv_ring.specs.Changes.{ChangesWithin, table_area};
@@ -25,7 +25,7 @@ fn piece_count(blocks: u16) -> u32
 impl Layout {
     /// Piece `k` of the data of a tag with so many blocks.
     fn piece_at(&self, tag: u8, blocks: u16, k: u32) -> Piece
-        requires room { self.now.base + size_of self.now < 2 ^ 64 }
+        requires room { HasAddresses self.now }
         requires tag { tag < self.now.depth }
         requires blocks { blocks ≤ MOST_BLOCKS }
         requires within { k < piece_count blocks }
@@ -40,7 +40,7 @@ impl Layout {
 
     /// The descriptor of piece `k`.
     fn transfer_at(&self, tag: u8, blocks: u16, k: u32) -> Xfer
-        requires room { self.now.base + size_of self.now < 2 ^ 64 }
+        requires room { HasAddresses self.now }
         requires tag { tag < self.now.depth }
         requires blocks { blocks ≤ MOST_BLOCKS }
         requires within { k < piece_count blocks }

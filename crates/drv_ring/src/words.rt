@@ -1,5 +1,5 @@
 // Bytes, words and descriptors in memory that is there.
-ghost use Rattle.std.specs.Prelude.{◌≡◌, ◌+◌, ◌<◌, ◌≤◌, ◌^◌, length, true, Ok};
+ghost use Rattle.std.specs.Prelude.{◌≡◌, ◌+◌, ◌<◌, ◌≤◌, ◌^◌, length, replicate, true, Ok};
 ghost use Rattle.host_mem.specs.Memory.{HasRange, bytes_of};
 ghost use Rattle.cq_desc.specs.Transfer.{IsXferInRange};
 ghost use Rattle.cq_chain.specs.Descriptors.{Reads, size_of, word_at};
@@ -30,6 +30,19 @@ pub(crate) fn write_word(mem: &mut HostMem, at: u64, word: u64)
     let mut bytes = [0; 8];
     put64(&mut bytes, 0, word);
     write_bytes(mem, at, &bytes);
+}
+
+/// Writes bytes of 0 in the place of a descriptor.
+pub(crate) fn write_nothing(mem: &mut HostMem, at: u64, wide: bool)
+    requires { HasRange mem.old at (size_of wide) }
+    ensures written { bytes_of mem.new at (size_of wide) ≡ replicate (size_of wide) 0 }
+    ensures within { ChangesWithin (area at (size_of wide)) mem.old mem.new }
+{
+    if wide {
+        write_bytes(mem, at, &[0; 16]);
+    } else {
+        write_bytes(mem, at, &[0; 8]);
+    }
 }
 
 /// Writes the words of a descriptor at an address: the low word alone, or both where it is `wide`.

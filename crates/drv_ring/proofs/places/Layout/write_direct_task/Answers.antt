@@ -7,7 +7,7 @@ pub returns-clause-word : goal.returns-clause-word
 returns-clause-word c =
     let a = c.args in
     let first = c.write_words in
-    let second = c.write_words-2 in
+    let second = c.write_nothing in
     ap direct_read
     (slot-first a.self.now a.tag c.slot_at-slot.result c.descriptor_size.result a.mem.now first.new.mem second.new.mem c.requires.layout c.requires.tag
     c.slot_at-slot.ensures c.descriptor_size.ensures first.ensures.within second.ensures.within
@@ -18,6 +18,6 @@ pub returns-clause-within : goal.returns-clause-within
 returns-clause-within c =
     let a = c.args in
     let first = c.write_words in
-    let second = c.write_words-2 in
+    let second = c.write_nothing in
     slot-within a.self.now a.tag c.slot_at-slot.result c.descriptor_size.result a.mem.now first.new.mem second.new.mem
     c.slot_at-slot.ensures c.descriptor_size.ensures first.ensures.within second.ensures.within
