@@ -1,0 +1,102 @@
+-- The parts of a layout are in the memory, and apart from one another.
+use Rattle.std.proofs.Common.{◌≡◌, ℕ, ◌+◌, ◌-◌, ◌*◌, ◌<◌, ◌≤◌, ◌⊎◌, inl, inr, Bool, true, false, refl, ap, ◌∙◌, arith}
+use Rattle.host_mem.specs.Memory.{Memory, HasRange}
+use Rattle.cq_chain.specs.Descriptors.{size_of as descriptor_size}
+use Rattle.cq_task.specs.Place.{place_of}
+use Rattle.piece_data.specs.Laws.{HasSameSpace}
+use Rattle.piece_data.proofs.Kept.{range-same_space}
+use Rattle.drv_ring.specs.declared.places.Layout.{Layout}
+use Rattle.drv_ring.specs.Layout.{list_of, table_at, buffer_at, size_of, HasLayout}
+
+pub layout-same_space : (old new : Memory) (layout : Layout) → HasSameSpace old new → HasLayout old layout → HasLayout new layout
+layout-same_space old new layout space held = record {
+  depth = held.depth;
+  below = held.below;
+  narrow = held.narrow;
+  inside = range-same_space old new layout.base (size_of layout) space held.inside;
+}
+
+-- a part of a range
+pub part-of : (memory : Memory) (start whole at len : ℕ) → HasRange memory start whole → start ≤ at → at + len ≤ start + whole
+    → HasRange memory at len
+part-of memory start whole at len range low high k lt =
+    let one = range (at - start + k) (omega arith) in
+    (omega (arith, one.0), omega (arith, one.1))
+
+-- a part of the layout
+pub part-inside : (memory : Memory) (layout : Layout) (at len : ℕ) → HasLayout memory layout → layout.base ≤ at
+    → at + len ≤ layout.base + size_of layout → HasRange memory at len
+part-inside memory layout at len held low high k lt =
+    let whole = held.inside (at - layout.base + k) (omega arith) in
+    (omega (arith, whole.0), omega (arith, whole.1))
+
+-- where slots and rows of a table stand, with descriptors of 8 bytes and with those of 16
+pub record IsNarrow (layout : Layout) : Type 0 where
+  pub size : descriptor_size layout.wide ≡ 8
+  pub place : (tag : ℕ) → place_of (list_of layout) tag ≡ layout.base + 16 * tag
+  pub row : (k : ℕ) → descriptor_size layout.wide * k ≡ 8 * k
+
+pub record IsWide (layout : Layout) : Type 0 where
+  pub size : descriptor_size layout.wide ≡ 16
+  pub place : (tag : ℕ) → place_of (list_of layout) tag ≡ layout.base + 32 * tag
+  pub row : (k : ℕ) → descriptor_size layout.wide * k ≡ 16 * k
+
+size_cases : (wide : Bool) → (descriptor_size wide ≡ 8) ⊎ (descriptor_size wide ≡ 16)
+size_cases false = inl refl
+size_cases true = inr refl
+
+pub shape : (layout : Layout) → IsNarrow layout ⊎ IsWide layout
+shape layout = elim (size_cases layout.wide) [
+  | inl e ↦ inl (record {
+    size = e;
+    place = λ tag. ap (λ s. layout.base + tag * (2 * s)) e ∙ omega arith;
+    row = λ k. ap (λ s. s * k) e;
+  })
+  | inr e ↦ inr (record {
+    size = e;
+    place = λ tag. ap (λ s. layout.base + tag * (2 * s)) e ∙ omega arith;
+    row = λ k. ap (λ s. s * k) e;
+  })
+]
+
+-- the slots end before the tables
+pub slot-ends : (layout : Layout) (tag : ℕ) → tag < 32
+    → place_of (list_of layout) tag + 2 * descriptor_size layout.wide ≤ layout.base + 1024
+slot-ends layout tag lt = elim (shape layout) [
+  | inl n ↦ omega (arith, n.size, n.place tag)
+  | inr w ↦ omega (arith, w.size, w.place tag)
+]
+
+pub size-some : (layout : Layout) → 8 ≤ descriptor_size layout.wide
+size-some layout = elim (shape layout) [ inl n ↦ omega (arith, n.size) | inr w ↦ omega (arith, w.size) ]
+
+pub slot-inside : (memory : Memory) (layout : Layout) (tag : ℕ) → HasLayout memory layout → tag < 32
+    → HasRange memory (place_of (list_of layout) tag) (2 * descriptor_size layout.wide)
+slot-inside memory layout tag held lt =
+    part-inside memory layout (place_of (list_of layout) tag) (2 * descriptor_size layout.wide) held (omega arith) (omega (arith, slot-ends layout tag lt))
+
+-- the descriptors of a table, up to 256 of them
+pub row-ends : (layout : Layout) (k : ℕ) → k < 256 → descriptor_size layout.wide * k + descriptor_size layout.wide ≤ 4096
+row-ends layout k lt = elim (shape layout) [
+  | inl n ↦ omega (arith, n.size, n.row k)
+  | inr w ↦ omega (arith, w.size, w.row k)
+]
+
+pub row-before : (layout : Layout) (j k : ℕ) → j < k
+    → descriptor_size layout.wide * j + descriptor_size layout.wide ≤ descriptor_size layout.wide * k
+row-before layout j k lt = elim (shape layout) [
+  | inl n ↦ omega (arith, n.size, n.row j, n.row k)
+  | inr w ↦ omega (arith, w.size, w.row j, w.row k)
+]
+
+pub table-inside : (memory : Memory) (layout : Layout) (tag at len : ℕ) → HasLayout memory layout → tag < layout.depth
+    → table_at layout tag ≤ at → at + len ≤ table_at layout tag + 4096 → HasRange memory at len
+table-inside memory layout tag at len held lt low high = part-inside memory layout at len held (omega arith) (omega (arith, held.depth))
+
+pub buffer-inside : (memory : Memory) (layout : Layout) (tag at len : ℕ) → HasLayout memory layout → tag < layout.depth
+    → buffer_at layout tag ≤ at → at + len ≤ buffer_at layout tag + 524288 → HasRange memory at len
+buffer-inside memory layout tag at len held lt low high = part-inside memory layout at len held (omega arith) (omega arith)
+
+-- the memory begins no later than the layout
+pub base-below : (memory : Memory) (layout : Layout) → HasLayout memory layout → memory.base ≤ layout.base
+base-below memory layout held = let first = held.inside 0 (omega arith) in omega (arith, first.0)

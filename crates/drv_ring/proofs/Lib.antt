@@ -1,0 +1,10 @@
+pub mod Changed
+pub mod Inside
+pub mod Pieced
+pub mod Chained
+pub mod Meant
+pub mod Others
+pub mod Filled
+pub mod Placed
+pub mod Jobs
+pub mod RingLaws

@@ -1,0 +1,5 @@
+pub mod Layout
+pub mod Pieces
+pub mod Task
+pub mod Asks
+pub mod Changes

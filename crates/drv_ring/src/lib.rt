@@ -1,0 +1,19 @@
+//! The host driver's part of the memory that it shares with the engine: where its task descriptor list, its chains and its
+//! buffers stand, how a job is written there, and how a block is read back (cqhci_prep_task_desc, cqhci_prep_tran_desc and
+//! cqhci_prep_dcmd_desc of drivers/mmc/host/cqhci-core.c).
+#![tactic(auto)]
+
+mod data;
+mod job;
+mod places;
+mod table;
+mod task;
+mod words;
+
+pub use places::{
+    BUFFER_BYTES, FIRST_BUFFER, FIRST_TABLE, Layout, MOST_BLOCKS, MOST_DEPTH, TABLE_BYTES,
+};
+pub use task::{CARD, FLUSH_CACHE, RESPONSE_R1, RESPONSE_R1B, SET_BARRIER};
+
+#[cfg(test)]
+mod tests;

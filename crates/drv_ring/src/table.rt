@@ -1,0 +1,73 @@
+// The chain of a tag: its table of transfer descriptors.
+ghost use Rattle.std.specs.Prelude.{◌≡◌, ◌+◌, ◌*◌, ◌<◌, ◌≤◌, ◌^◌, ℕ, Ok};
+ghost use Rattle.cq_chain.specs.Descriptors.{Reads, size_of as descriptor_size};
+ghost use Rattle.drv_ring.specs.Layout.{HasAddresses, HasLayout, table_at};
+ghost use Rattle.drv_ring.specs.Pieces.{piece_at, piece_count};
+ghost use Rattle.drv_ring.specs.Asks.{transfer_at};
+ghost use Rattle.drv_ring.specs.Changes.{ChangesWithin, table_area};
+
+use crate::Layout;
+use crate::places::MOST_BLOCKS;
+use crate::words::write_descriptor;
+use cq_chain::Piece;
+use cq_desc::Xfer;
+use cq_desc::layout::LONGEST_PIECE;
+use cq_task::BLOCK_BYTES;
+use host_mem::HostMem;
+
+/// How many pieces so many blocks have.
+fn piece_count(blocks: u16) -> u32
+    ensures { result ≡ piece_count blocks }
+{
+    (BLOCK_BYTES * u32::from(blocks)).div_ceil(LONGEST_PIECE)
+}
+
+impl Layout {
+    /// Piece `k` of the data of a tag with so many blocks.
+    fn piece_at(&self, tag: u8, blocks: u16, k: u32) -> Piece
+        requires room { HasAddresses self.now }
+        requires tag { tag < self.now.depth }
+        requires blocks { blocks ≤ MOST_BLOCKS }
+        requires within { k < piece_count blocks }
+        ensures { result ≡ piece_at self.now tag blocks k }
+    {
+        let first = LONGEST_PIECE * k;
+        Piece {
+            at: self.buffer_at(tag) + u64::from(first),
+            len: LONGEST_PIECE.min(BLOCK_BYTES * u32::from(blocks) - first),
+        }
+    }
+
+    /// The descriptor of piece `k`.
+    fn transfer_at(&self, tag: u8, blocks: u16, k: u32) -> Xfer
+        requires room { HasAddresses self.now }
+        requires tag { tag < self.now.depth }
+        requires blocks { blocks ≤ MOST_BLOCKS }
+        requires within { k < piece_count blocks }
+        ensures { result ≡ transfer_at self.now tag blocks k }
+    {
+        let piece = self.piece_at(tag, blocks, k);
+        Xfer::Piece {
+            end: k + 1 == piece_count(blocks),
+            int: false,
+            len: piece.len,
+            at: piece.at,
+        }
+    }
+
+    /// Writes the table of a tag with so many blocks.
+    pub(crate) fn write_table(&self, mem: &mut HostMem, tag: u8, blocks: u16)
+        requires layout { HasLayout mem.old self.now }
+        requires tag { tag < self.now.depth }
+        requires blocks { blocks ≤ MOST_BLOCKS }
+        ensures written { (k : ℕ) → k < piece_count blocks → Reads mem.new self.now.wide (table_at self.now tag + descriptor_size self.now.wide * k) (Ok (transfer_at self.now tag blocks k)) }
+        ensures within { ChangesWithin (table_area self.now tag) mem.old mem.new }
+    {
+        let table = self.table_at(tag);
+        let size = self.descriptor_size();
+        for k in 0..piece_count(blocks) {
+            let xfer = self.transfer_at(tag, blocks, k);
+            write_descriptor(mem, table + size * u64::from(k), &xfer, self.wide);
+        }
+    }
+}
