@@ -9,7 +9,7 @@ use Rattle.card_store.specs.Store.{Stands as StoreStands, Store}
 use Rattle.intent_store.specs.Intent.{ShowsImage, shown_by}
 use Rattle.io_edge.specs.Sink.{TookPart}
 use Rattle.raw_face.specs.Booting.{switched_on}
-use Rattle.raw_face.specs.Machine.{Machine, Moment, moment, switched_off}
+use Rattle.raw_machine.specs.Machine.{Machine, Moment, moment, switched_off}
 use Rattle.raw_face.specs.Operation.{Does, Finishes}
 use Rattle.raw_text.specs.declared.op.RawOp.{RawOp}
 use Rattle.trace_text.specs.Trace.{item_text}

@@ -25,10 +25,11 @@ use Rattle.storage_model.specs.declared.ends.Halt.{Halt}
 use Rattle.storage_model.specs.declared.ends.Halt.TheVariants.{SinkFailed, OpenFault, PowerGone, BadImage}
 use Rattle.storage_model.specs.declared.trace.End.{End}
 use Rattle.storage_model.specs.declared.trace.End.TheVariants.{Fault, Dead}
-use Rattle.raw_face.specs.Machine.{Moment, behind_of}
+use Rattle.raw_machine.specs.Machine.{Moment, behind_of}
 use Rattle.raw_face.specs.Operation.{Does}
 use Rattle.raw_face.specs.Output.{HasCauses, Output, Shows, halt_of, lines_text, output_text, shown, tells_fault}
-use Rattle.raw_face.specs.Running.{GoesOn, Happens, Step, end_after, goes_on, lines_of, output_after, steps_lines}
+use Rattle.raw_face.specs.Running.{output_after}
+use Rattle.raw_machine.specs.Running.{GoesOn, Happens, Step, end_after, goes_on, lines_of, steps_lines}
 use Rattle.raw_face.proofs.Printing.{after, shown_after}
 
 pub later_same : (count : Count) → Later count count

@@ -7,7 +7,7 @@ use Rattle.cq_regs.specs.State.{Registers}
 use Rattle.cq_regs.specs.Table.{row_at}
 use Rattle.host_mem.specs.Memory.{Memory}
 use Rattle.raw_face.specs.Access.{IsPeekedIn, IsPokedIn, read_output, write_output}
-use Rattle.raw_face.specs.Machine.{Machine, Moment, moment}
+use Rattle.raw_machine.specs.Machine.{Machine, Moment, moment}
 use Rattle.raw_face.specs.Output.{HasCauses, Output, Shows}
 use Rattle.raw_face.specs.Running.{Runs}
 use Rattle.raw_face.specs.Sector.{HasFlushed, IsDiscarded, IsShown}

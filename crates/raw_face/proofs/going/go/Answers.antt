@@ -2,9 +2,9 @@ use Rattle.std.proofs.Common.{Ok, sym}
 use Rattle.std.proofs.lemmas.Result.{err_from_is_err_and}
 use Rattle.io_edge.specs.Sink.{Joins}
 use Rattle.card_link.specs.Made.{CardMade}
-use Rattle.raw_face.specs.Machine.{behind_of, moment}
+use Rattle.raw_machine.specs.Machine.{behind_of, moment}
 use Rattle.raw_face.specs.Reply.{output_of}
-use Rattle.raw_face.proofs.Falling.{event_down}
+use Rattle.raw_machine.proofs.Falling.{event_down}
 use Rattle.raw_face.proofs.Runs.{Follows, ended_ok, failed, follows, later_both, over_by, run_more, run_over}
 use Rattle.raw_face.proofs.going.go.Goals as goal
 

@@ -1,5 +1,5 @@
 use Rattle.std.proofs.Common.{replicate, subst, sym}
-use Rattle.raw_face.specs.Machine.{Machine, Stands}
+use Rattle.raw_machine.specs.Machine.{Machine, Stands}
 use Rattle.raw_face.specs.Reply.{output_of}
 use Rattle.raw_face.specs.contracts.raw.Raw.{the_view}
 use Rattle.raw_face.proofs.Standing.{stands_poked}

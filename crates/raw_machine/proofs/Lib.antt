@@ -1,0 +1,3 @@
+pub mod Falling
+pub mod Mapped
+pub mod WorkLeft
