@@ -70,17 +70,20 @@ impl Card {
     }
 
     /// Switches the card on: it opens the image on the array, and is set up as the driver does (JESD84-B51, section 7.4;
-    /// mmc_init_card and mmc_cmdq_enable in Linux). Queue, phases and cached lines are forgotten, also where it is refused.
+    /// mmc_init_card and mmc_cmdq_enable in Linux). Queue, phases and cached lines are forgotten, also where it is refused; then
+    /// no image is open.
     pub fn boot<A: Array>(&mut self, array: &mut A) -> Result<(), StartEnd>
         ensures open { OnOk result (IsOpen self.new.store (A.state array.new)) }
         ensures ok { OnOk result (self.new ≡ record (idle_card self.old.depth self.old.lines self.old.through self.new.store) { csd = set_up self.old (sectors self.new) }) }
         ensures err { OnErr result (self.new ≡ idle_card self.old.depth self.old.lines self.old.through self.new.store) }
         ensures stands { OnOk result (IfSome (shown_by (A.state array.new)) (λ shown. Stands (record { base = shown; pend = [] }) self.new.store (A.state array.new))) }
+        ensures closed { OnErr result (self.new.store.known ≡ None) }
         ensures room { self.new.store.cache ≡ record self.old.store.cache { lines = []; last = 0 } }
         ensures shown { shown_by (A.state array.new) ≡ shown_by (A.state array.old) }
         ensures image { ShowsImage (A.state array.old) → ShowsImage (A.state array.new) }
+        ensures was_image { ShowsImage (A.state array.new) → ShowsImage (A.state array.old) }
         ensures bad { IsErrOf result BadImage → IsNoImage (A.state array.old) }
-        ensures was_image { OnOk result (ShowsImage (A.state array.old)) }
+        ensures opened { OnOk result (ShowsImage (A.state array.old)) }
         ensures ends { StartEnds (A.state array.old) (A.state array.new) result }
     {
         self.queue = TaskQueue::new(self.depth);

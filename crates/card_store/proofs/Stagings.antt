@@ -34,11 +34,12 @@ rose_both a b c first (inl more) = let one = first.value in inl (omega arith)
 rose_both a b c first (inr stands) = inr stands
 
 pub ends_none : (array : ArrayState) → StoreEnds array array well
-ends_none array = record { count = refl; faults = later_same array.faults; cuts = later_same array.cuts; ok = refl; flash = λ h. cc; lost = λ h. cc }
+ends_none array = record { count = refl; tells = refl; faults = later_same array.faults; cuts = later_same array.cuts; ok = refl; flash = λ h. cc; lost = λ h. cc }
 
 pub ends_both : (first next last : ArrayState) (result : Result (Unit {0}) StoreEnd) → StoreEnds first next well → StoreEnds next last result → StoreEnds first last result
 ends_both first next last (Ok done) a b = record {
   count = b.count ∙ a.count;
+  tells = b.tells ∙ a.tells;
   faults = later_both first.faults next.faults last.faults a.faults b.faults;
   cuts = later_both first.cuts next.cuts last.cuts a.cuts b.cuts;
   ok = b.ok ∙ a.ok;
@@ -47,6 +48,7 @@ ends_both first next last (Ok done) a b = record {
 }
 ends_both first next last (Err Flash) a b = record {
   count = b.count ∙ a.count;
+  tells = b.tells ∙ a.tells;
   faults = later_both first.faults next.faults last.faults a.faults b.faults;
   cuts = later_both first.cuts next.cuts last.cuts a.cuts b.cuts;
   ok = b.ok;
@@ -55,6 +57,7 @@ ends_both first next last (Err Flash) a b = record {
 }
 ends_both first next last (Err PowerLost) a b = record {
   count = b.count ∙ a.count;
+  tells = b.tells ∙ a.tells;
   faults = later_both first.faults next.faults last.faults a.faults b.faults;
   cuts = later_both first.cuts next.cuts last.cuts a.cuts b.cuts;
   ok = b.ok;

@@ -1,5 +1,5 @@
 -- What staging keeps.
-use Rattle.std.specs.Prelude.{◌≡◌, ◌⊎◌, ◌<◌, true, false, [], ◌∷◌, ◌++◌, List, Result, Ok, OnOk, IsErrOf, length}
+use Rattle.std.specs.Prelude.{◌≡◌, ◌⊎◌, ◌<◌, true, false, [], ◌∷◌, ◌++◌, List, Result, Ok, OnOk, IsErrOf, is_some, length}
 use Rattle.std.specs.List.{list_any}
 use Rattle.storage_model.specs.declared.block.Block.{Block}
 use Rattle.storage_model.specs.declared.marks.Put.{Put}
@@ -52,10 +52,11 @@ abbrev pub Places : Put → Cache → ArrayState → Cache → ArrayState → Ty
 Places put old_cache old_array cache array = (base : List Block) (pend : List Mark) → put.sector < length base
     → LinesStand old_cache (shown_by old_array) base pend → LinesStand cache (shown_by array) base (pend ++ PutMark put ∷ [])
 
--- How a staging ends. Counts don't fall. `Flash` is told only where the array failed in this call, `PowerLost` only where
--- the power was cut in this call or was off.
+-- How a staging ends. An array that tells its pages goes on telling them, and one that doesn't tells none. Counts don't fall.
+-- `Flash` is told only where the array failed in this call, `PowerLost` only where the power was cut in this call or was off.
 pub record StageEnds (old new : ArrayState) (result : Result (Unit {0}) StageEnd) : Type 0 where
   pub count : new.count ≡ old.count
+  pub tells : is_some new.told ≡ is_some old.told
   pub faults : Later old.faults new.faults
   pub cuts : Later old.cuts new.cuts
   pub ok : OnOk result (new.powered ≡ old.powered)

@@ -158,9 +158,11 @@ impl CardStore {
     pub fn boot<A: Array>(&mut self, array: &mut A) -> Result<(), StartEnd>
         ensures open { OnOk result (IsOpen self.new (A.state array.new)) }
         ensures stands { OnOk result (IfSome (shown_by (A.state array.new)) (λ shown. Stands (record { base = shown; pend = [] }) self.new (A.state array.new))) }
+        ensures closed { OnErr result (self.new.known ≡ None) }
         ensures room { self.new.cache ≡ record self.old.cache { lines = []; last = 0 } }
         ensures shown { shown_by (A.state array.new) ≡ shown_by (A.state array.old) }
         ensures image { ShowsImage (A.state array.old) → ShowsImage (A.state array.new) }
+        ensures was_image { ShowsImage (A.state array.new) → ShowsImage (A.state array.old) }
         ensures bad { IsErrOf result BadImage → IsNoImage (A.state array.old) }
         ensures ok { OnOk result (ShowsImage (A.state array.old)) }
         ensures ends { StartEnds (A.state array.old) (A.state array.new) result }

@@ -1,5 +1,5 @@
 -- What an intent store knows of an image, what an array shows through it, and how its calls end.
-use Rattle.std.specs.Prelude.{◌≡◌, ◌⊎◌, ◌≤◌, ℕ, ◌+◌, true, false, List, Option, IfSome, Result, Err, IsErrOf, OnOk, option_map}
+use Rattle.std.specs.Prelude.{◌≡◌, ◌⊎◌, ◌≤◌, ℕ, ◌+◌, true, false, List, Option, IfSome, Result, Err, IsErrOf, OnOk, is_some, option_map}
 use Rattle.storage_model.specs.Count.{Later, Rose}
 use Rattle.storage_model.specs.declared.block.Block.{Block}
 use Rattle.array_edge.specs.Array.{ArrayState, with_page}
@@ -34,10 +34,12 @@ pub record IntentStands (known : Known) (array : ArrayState) : Type 0 where
 abbrev pub IsOldOrNew : Option (List Block) → ℕ → Block → Option (List Block) → Type 0
 IsOldOrNew old sector block new = (new ≡ old) ⊎ (new ≡ with_page old sector block)
 
--- How a call of an intent store ends. Counts don't fall. `Flash` is told only where the array failed in this call,
--- `PowerLost` only where the power was cut in this call or was off.
+-- How a call of an intent store ends. An array that tells its pages goes on telling them, and one that doesn't tells none.
+-- Counts don't fall. `Flash` is told only where the array failed in this call, `PowerLost` only where the power was cut in
+-- this call or was off.
 pub record StoreEnds {T : Type 0} (old new : ArrayState) (result : Result T StoreEnd) : Type 0 where
   pub count : new.count ≡ old.count
+  pub tells : is_some new.told ≡ is_some old.told
   pub faults : Later old.faults new.faults
   pub cuts : Later old.cuts new.cuts
   pub ok : OnOk result (new.powered ≡ old.powered)
@@ -49,10 +51,11 @@ abbrev pub start_end : StoreEnd → StartEnd
 start_end Flash = StartFlash
 start_end PowerLost = StartPowerLost
 
--- How an opening ends. It begins with the power on. Counts don't fall, and `Flash` and `PowerLost` are told only where
--- the array failed or was cut in this call.
+-- How an opening ends. It begins with the power on. An array that tells its pages goes on telling them, and one that doesn't
+-- tells none. Counts don't fall, and `Flash` and `PowerLost` are told only where the array failed or was cut in this call.
 pub record StartEnds {T : Type 0} (old new : ArrayState) (result : Result T StartEnd) : Type 0 where
   pub count : new.count ≡ old.count
+  pub tells : is_some new.told ≡ is_some old.told
   pub faults : Later old.faults new.faults
   pub cuts : Later old.cuts new.cuts
   pub ok : OnOk result (new.powered ≡ true)

@@ -27,7 +27,7 @@ pub fn fetch<A: Array>(array: &mut A, page: u32, block: &mut Block) -> Result<()
 }
 
 // Writes a page.
-#[tactic(auto, using(crate::proofs::WriteLemmas::whole_write, crate::proofs::WriteLemmas::torn_write))]
+#[tactic(auto, using(crate::proofs::WriteLemmas::whole_write, crate::proofs::WriteLemmas::torn_write, crate::proofs::WriteLemmas::tells_write, crate::proofs::WriteLemmas::tells_torn))]
 pub fn program<A: Array>(array: &mut A, page: u32, block: &Block) -> Result<(), StoreEnd>
     requires { page < (A.state array.old).count }
     ensures written { IsWritten (A.state array.old).told page block.now (A.state array.new).told result }
