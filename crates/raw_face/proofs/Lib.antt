@@ -1,3 +1,4 @@
+pub mod ByTask
 pub mod Filling
 pub mod Printing
 pub mod Runs

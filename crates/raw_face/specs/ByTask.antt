@@ -73,7 +73,7 @@ pub record RawSector (sector : ℕ) (card : PlainCard) (output : Output) : Type 
 
 -- a sector of the card shown
 pub record RawShows (sector : ℕ) (old : RawState) (output : Output) (new : RawState) : Type 0 where
-  pub sector : MatchBool (nat_lt sector (length old.card.contents.base)) (RawSector sector old.card output) (output ≡ one Outside)
+  pub shown : MatchBool (nat_lt sector (length old.card.contents.base)) (RawSector sector old.card output) (output ≡ one Outside)
   pub after : new ≡ old
 
 -- the card's whole queue discarded by CMD48 (JESD84-B51, section 6.6.39)
