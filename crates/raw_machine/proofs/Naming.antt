@@ -77,12 +77,12 @@ pub record IsLed (command : Command) (after : Host → Result ℕ LinkEnd → Ou
   pub leaves : Leaves new places left
   pub sends : Sends command after state d (sent_state state left card)
 
-pub led_so : (command : Command) (after : Host → Result ℕ LinkEnd → Outcome) (state : RawState) (new : Moment) (did d : Did) (from : Host) (held : Places)
+pub led_so : (command : Command) (after : Host → Result ℕ LinkEnd → Outcome) (state : RawState) (old new : Moment) (did d : Did) (from : Host) (held : Places)
     (holds : Places → Places) (left : Registers) → Leaves new from.held from.regs
-    → (s : IsSent command after state.card state.regs held new (outcome_of did from.held from.regs))
+    → (s : IsSent command after state.card state.regs held old new (outcome_of did from.held from.regs))
     → ((places : Places) → after (host_of places state.regs) (seen s.answer) ≡ outcome_of d (holds places) left)
     → IsLed command after state new did d (holds held) left (plain new.machine.card s.contents)
-led_so command after state new did d from held holds left l s e =
+led_so command after state old new did d from held holds left l s e =
     let o : outcome_of did from.held from.regs ≡ outcome_of d (holds held) left = s.outcome ∙ e held in
     record {
       is = ap (λ (x : Outcome). x.did) o;
@@ -106,7 +106,7 @@ with_task-same slot task other = ap (λ b. cond b (Some task) other) (eq-eqb slo
 named_active : (progress : Progress) → progress ≡ Named → progress ≢ Active
 named_active progress e f = cc (e, f)
 
-running : (regs : Registers) → rests regs ≡ false → regs.stopped ≡ false
+pub running : (regs : Registers) → rests regs ≡ false → regs.stopped ≡ false
 running regs e = stopped_if (has_bit regs.configuration 0) regs.halted regs.stopped e where
   stopped_if : (enabled halted stopped : Bool) → (not enabled || (halted || stopped)) ≡ false → stopped ≡ false
   stopped_if true false false e = refl
@@ -154,7 +154,7 @@ module _ (state : RawState) (old new : Moment) (did : Did) (n : IsNaming state o
         (f.keeps (running n.between.regs n.runs) n.slot n.below (named_begun (progress_of n.between.regs.ring n.slot) n.named)) d.0, d.1)
 
   abbrev Sent : Type 0
-  Sent = IsSent (StartSector n.task.desc.start) (λ h. after_address h n.slot n.task.desc) told.card n.between.regs held new (outcome_of did f.left.held f.left.regs)
+  Sent = IsSent (StartSector n.task.desc.start) (λ h. after_address h n.slot n.task.desc) told.card n.between.regs held old new (outcome_of did f.left.held f.left.regs)
 
   has : Has held n.between.regs told.tasks
   has = keeps_has held n.between.regs told.tasks (f.keeps (running n.between.regs n.runs))
@@ -168,7 +168,7 @@ module _ (state : RawState) (old new : Moment) (did : Did) (n : IsNaming state o
 
   by_led : (s : Sent) → Led n.between.regs (StartSector n.task.desc.start) n.slot s.answer (addressed n.slot n.task.desc) → IsDone state did new
   by_led s (stops cause left stopped ring e) =
-      let l = led_so (StartSector n.task.desc.start) (λ h. after_address h n.slot n.task.desc) told new did (Stopped cause) f.left held (λ places. places) left f.leaves s e in
+      let l = led_so (StartSector n.task.desc.start) (λ h. after_address h n.slot n.task.desc) told old new did (Stopped cause) f.left held (λ places. places) left f.leaves s e in
       let after = sent_state told left (plain new.machine.card s.contents) in
       done_by state after new did (Stopped cause) l.is (works_so (Stopped cause) after l.sends)
       (tells_from new after held left l.leaves (sym crosses.1) refl s.behind (rung_same n.between.regs.ring left.ring ring (rung_told told old n.tells))
@@ -176,7 +176,7 @@ module _ (state : RawState) (old new : Moment) (did : Did) (n : IsNaming state o
   by_led s (goes word answered e) =
       let left = moved_on (responded n.between.regs (index_of (StartSector n.task.desc.start)) word) n.slot in
       let d = SentCommand (StartSector n.task.desc.start) in
-      let l = led_so (StartSector n.task.desc.start) (λ h. after_address h n.slot n.task.desc) told new did d f.left held (λ places. places) left f.leaves s e in
+      let l = led_so (StartSector n.task.desc.start) (λ h. after_address h n.slot n.task.desc) told old new did d f.left held (λ places. places) left f.leaves s e in
       let after = sent_state told left (plain new.machine.card s.contents) in
       done_by state after new did d l.is (works_so d after l.sends)
       (tells_from new after held left l.leaves (sym crosses.1) refl s.behind (rung_advanced n.between.regs.ring n.slot (rung_told told old n.tells))

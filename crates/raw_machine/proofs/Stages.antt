@@ -4,6 +4,7 @@ use Rattle.std.specs.Prelude.{Result, Ok, Err, Option, if◌then◌else◌, is_s
 use Rattle.std.specs.List.{All}
 use Rattle.array_edge.specs.Array.{ArrayState}
 use Rattle.bus_link.specs.Link.{Call}
+use Rattle.bus_link.specs.Link.Call.{Exchanged}
 use Rattle.bus_link.specs.declared.link.LinkEnd.{LinkEnd}
 use Rattle.card_core.specs.Response.{task_to_execute}
 use Rattle.card_core.specs.declared.ends.Dark.{Dark}
@@ -129,17 +130,18 @@ tells_from new state held left l memory regs b rung tasks between =
     wholly new state (partly_from new state held left l memory regs b rung tasks) (subst P (sym l.regs) between)
 
 -- a command crossed the bus, and its answer led on, whatever tasks are held
-pub record IsSent (command : Command) (after : Host → Result ℕ LinkEnd → Outcome) (old : PlainCard) (regs : Registers) (held : Places) (new : Moment) (left : Outcome)
+pub record IsSent (command : Command) (after : Host → Result ℕ LinkEnd → Outcome) (card : PlainCard) (regs : Registers) (held : Places) (old new : Moment) (left : Outcome)
     : Type 0 where
   pub answer : Result ℕ Dark
   pub contents : Contents
-  pub answers : Answers command old answer (plain new.machine.card contents)
+  pub answers : Answers command card answer (plain new.machine.card contents)
+  pub crossed : CardMade (behind_of old) (Exchanged command (seen answer)) (behind_of new)
   pub behind : Behinds new (plain new.machine.card contents)
   pub outcome : left ≡ after (host_of held regs) (seen answer)
 
 pub sent_so : (command : Command) (after : Host → Result ℕ LinkEnd → Outcome) (old new : Moment) (card : PlainCard) (regs : Registers) (held : Places) (left : Outcome)
     → Behinds old card → Exchanges CardMade (behind_of old) (behind_of new) command left (after (host_of held regs))
-    → IsSent command after card regs held new left
+    → IsSent command after card regs held old new left
 sent_so command after old new card regs held left b e =
     let x : IsExchanged command (behind_of old) (behind_of new) card.contents e.answer =
     exchanged command (behind_of old) (behind_of new) card.contents e.answer b.script b.contents e.crossed in
@@ -148,6 +150,7 @@ sent_so command after old new card regs held left b e =
       answer = x.answer;
       contents = x.is.after;
       answers = subst P (sym b.is) x.is.answers;
+      crossed = let Q : Result ℕ LinkEnd → Type 0 = λ r. CardMade (behind_of old) (Exchanged command r) (behind_of new) in subst Q x.seen_so e.crossed;
       behind = record { is = refl; contents = x.is.stands; told = x.is.told ∙ b.told; script = x.script };
       outcome = e.outcome ∙ ap (after (host_of held regs)) x.seen_so;
     }
