@@ -1,6 +1,6 @@
 -- An event of the engine that begins between tasks.
 use Rattle.std.proofs.Common.{◌≡◌, ◌≢◌, ◌<◌, ◌≤◌, ◌==◌, ℕ, Bool, true, false, cond, refl, sym, ◌∙◌, ap, subst, arith}
-use Rattle.std.specs.Prelude.{List, Option, Some, None, Result, Ok, Err, min, slice_get, slice_set}
+use Rattle.std.specs.Prelude.{List, [], Option, Some, None, Result, Ok, Err, min, slice_get, slice_set}
 use Rattle.std.specs.Option.{IsSomeAnd}
 use Rattle.std.proofs.lemmas.Bool.{true≢false}
 use Rattle.bus_link.specs.Link.{is_poll}
@@ -15,6 +15,10 @@ use Rattle.cmd_words.specs.Command.{index_of}
 use Rattle.cmd_words.specs.declared.command.Command.{Command}
 use Rattle.cmd_words.specs.declared.command.Command.TheVariants.{Execute as ExecuteTask}
 use Rattle.cq_desc.specs.declared.direct.DirectDesc.{DirectDesc}
+use Rattle.cq_desc.specs.declared.task.TaskDesc.{TaskDesc}
+use Rattle.card_core.specs.Response.{task_to_execute}
+use Rattle.task_queue.specs.declared.queue.Queued.{Queued}
+use Rattle.std.proofs.lemmas.List.{append-nil}
 use Rattle.cq_engine.specs.After.{after_direct, after_execute, after_params, after_poll, executed, named}
 use Rattle.cq_engine.specs.Event.{Does, Exchanges, IsServed, Serves as ServedAs, Silent}
 use Rattle.cq_engine.specs.Outcome.{Host, Outcome, host_of, outcome_of, responded}
@@ -39,10 +43,12 @@ use Rattle.cq_task.specs.declared.slot.DataTask.{DataTask}
 use Rattle.cq_task.specs.declared.slot.DropCause.{DropCause}
 use Rattle.cq_task.specs.declared.slot.SlotTask.{SlotTask}
 use Rattle.cq_task.specs.declared.slot.SlotTask.TheVariants.{Data, Direct}
-use Rattle.raw_machine.specs.Answering.{seen}
+use Rattle.raw_machine.specs.Answering.{card_of, seen}
+use Rattle.raw_machine.specs.Moving.{marks_of, phase_of, read_into, with_marks}
+use Rattle.raw_machine.proofs.Answered.{HasBegun, begun}
 use Rattle.raw_machine.specs.Machine.{Moment, behind_of}
 use Rattle.raw_machine.specs.Running.{Happens}
-use Rattle.raw_machine.specs.State.{RawState, places_of, with_registers, with_task}
+use Rattle.raw_machine.specs.State.{PlainCard, RawState, places_of, turned, with_registers, with_task}
 use Rattle.raw_machine.specs.Tasks.{Acts, Moves, Sends, ServesAs, Works}
 use Rattle.raw_machine.specs.Tasks.Gives.{stops as stops_first}
 use Rattle.raw_machine.specs.Tasks.Moves.{refused}
@@ -55,9 +61,23 @@ use Rattle.raw_machine.proofs.Leading.LedPoll.{stops as poll_stops, polls}
 use Rattle.raw_machine.proofs.Naming.{Facts, IsLed, done_by, facts, led_so, running, rung_same, rung_told}
 use Rattle.raw_machine.proofs.NextDue.{IsBetweenDue, due_told, executed_at, not_under_way, order_advanced, rest_is_due, rests_due, served_at}
 use Rattle.raw_machine.proofs.NextDue.IsBetweenDue.{rest, tick, poll, serve, execute}
-use Rattle.raw_machine.proofs.Stages.{Behinds, IsDone, IsMoving, IsNaming, IsSent, Leaves, Stage, behinds, behinds_same, leaves_as, partly, partly_from, sends, sent_so, sent_state, tells_from}
+use Rattle.raw_machine.proofs.Stages.{moving_state, phase_at, Behinds, IsDone, IsMoving, IsNaming, IsSent, Leaves, Stage, behinds, behinds_same, leaves_as, partly, partly_from, sends, sent_so, sent_state, tells_from}
 use Rattle.raw_machine.proofs.Stages.Stage.{done, moving, naming}
 use Rattle.raw_machine.proofs.WorkLeft.{advanced-same}
+
+-- no block of the data phase moved yet
+moving_none : (start : RawState) (task : DataTask) (queued : Queued) → moving_state start task queued 0 ≡ start
+unfolding read_into marks_of
+moving_none start task queued = none_if queued.task.read where
+  none_if : (read : Bool) → record start {
+    memory = cond read start.memory start.memory;
+    card = turned (λ c. cond read c (with_marks [] c)) start.card;
+  } ≡ start
+  none_if true = refl
+  none_if false = ap (λ pend. record start { card = record start.card { contents = record start.card.contents { pend = pend } } }) (append-nil start.card.contents.pend)
+
+phase_none : (queued : Queued) → phase_of queued ≡ phase_at queued 0
+phase_none queued = ap (λ n. record { task = queued.task; start = queued.start; moved = n }) (omega arith)
 
 module _ (state : RawState) (old new : Moment) (did : Did) (t : Tells old state) (f : Facts state old new did) where
   abbrev held : Places
@@ -200,3 +220,106 @@ module _ (state : RawState) (old new : Moment) (did : Did) (t : Tells old state)
         let x = sent_so (params_of slot task.desc) (λ h. after_params h slot task) old new state.card state.regs held outcome (behinds old state (partly old state t)) s in
         by_params slot task is i m memory x (led state.regs (params_of slot task.desc) slot x.answer (named slot task))
     by_meaning slot (Err why) is i m s memory = done (dropped_so slot why i m s memory)
+
+    -- the task of a slot that is ready
+    module _ (slot : ℕ) (h : HeldTask) (below : slot < 32) (ready : progress_of state.regs.ring slot ≡ Ready) (at : held_at held slot ≡ Some h)
+        (is_task : state.tasks slot ≡ Some h.task) (fresh : h.moved ≡ 0) (i : IsDue held state.regs state.memory (Execute slot))
+        (memory : new.machine.memory ≡ state.memory) where
+      abbrev desc : TaskDesc
+      desc = h.task.desc
+
+      acts_so : (d : Did) (after : RawState) → Moves slot h.task state d after → Acts (Execute slot) state d after
+      acts_so d after m = let P : Option DataTask → Type 0 = λ o. IsSomeAnd o (λ task. Moves slot task state d after) in subst P (sym is_task) m
+
+      begun_ready : is_begun (progress_of state.regs.ring slot) ≡ true
+      begun_ready = ap is_begun ready
+
+      executed_if : (word : ℕ) (error : Bool) → has_error word ≡ error → (places : Places) (regs : Registers)
+          → executed slot desc (host_of places regs) word
+          ≡ cond error (outcome_of (Finished slot) (slice_set places slot None) (completed (moved_on regs slot) slot desc.int))
+          (outcome_of (SentCommand (execute_of slot desc)) places (moved_on regs slot))
+      executed_if word error e places regs =
+          ap (λ b. cond b (outcome_of (Finished slot) (slice_set places slot None) (completed (moved_on regs slot) slot desc.int))
+          (outcome_of (SentCommand (execute_of slot desc)) places (moved_on regs slot))) e
+
+      moved_regs : ℕ → Registers
+      moved_regs word = moved_on (responded state.regs (index_of (execute_of slot desc)) word) slot
+
+      -- an answer with an error bit
+      by_error : (s : IsSent (execute_of slot desc) (λ g. after_execute g slot desc) state.card state.regs held old new outcome) (word : ℕ)
+          → ((places : Places) → after_execute (host_of places state.regs) slot desc (seen s.answer)
+          ≡ executed slot desc (host_of places (responded state.regs (index_of (execute_of slot desc)) word)) word)
+          → has_error word ≡ true → IsDone state did new
+      by_error s word e error =
+          let mid : Registers = moved_on (responded state.regs (index_of (execute_of slot desc)) word) slot in
+          let left : Registers = completed mid slot desc.int in
+          let c = completes mid slot desc.int in
+          sent_done (Finished slot) left (execute_of slot desc) (λ g. after_execute g slot desc) (λ places. slice_set places slot None) s
+          (λ places. e places ∙ executed_if word true error places (responded state.regs (index_of (execute_of slot desc)) word)) (Execute slot) i
+          (λ sends. acts_so (Finished slot) (sent_state state left (plain new.machine.card s.contents)) (refused sends (λ command x. cc x))) memory
+          (rung_same (without mid.ring slot) left.ring c.0 (rung_without mid.ring slot (rung_advanced state.regs.ring slot rung)))
+          (λ go. has_finished held mid left state.tasks slot (has_advanced held state.regs mid state.tasks slot (has on) refl begun_ready) c.0)
+          (λ go. between_ended mid left slot (others_advanced state.regs mid slot (between on) refl) c.0)
+
+      begins : (word : ℕ) → Crosses (execute_of slot desc) (behind_of old) (behind_of new) (Ok word) → has_error word ≡ false
+          → HasBegun desc.read slot (behind_of old) (behind_of new) state.card.contents
+      begins word x error = begun desc.read slot word (behind_of old) (behind_of new) state.card.contents t.script t.contents x error
+
+      -- the data phase is open
+      by_phase : (s : IsSent (execute_of slot desc) (λ g. after_execute g slot desc) state.card state.regs held old new outcome) (word : ℕ) → s.answer ≡ Ok word
+          → ((places : Places) → after_execute (host_of places state.regs) slot desc (seen s.answer)
+          ≡ executed slot desc (host_of places (responded state.regs (index_of (execute_of slot desc)) word)) word)
+          → has_error word ≡ false → Stage state did new
+      by_phase s word answered e error =
+          let left : Registers = moved_on (responded state.regs (index_of (execute_of slot desc)) word) slot in
+          let d = SentCommand (execute_of slot desc) in
+          let l = led_so (execute_of slot desc) (λ g. after_execute g slot desc) state old new did d f.left held (λ places. places) left f.leaves s
+          (λ places. e places ∙ executed_if word false error places (responded state.regs (index_of (execute_of slot desc)) word)) in
+          let start = sent_state state left (plain new.machine.card s.contents) in
+          let C : Result ℕ Dark → Type 0 = λ a. Crosses (execute_of slot desc) (behind_of old) (behind_of new) (seen a) in
+          let b = begins word (subst C answered s.crossed) error in
+          let place = executed_at held state.regs state.memory slot i in
+          let active : progress_of left.ring slot ≡ Active = named_next slot Ready ready in
+          let T : PlainCard → Type 0 = λ c. task_to_execute (card_of c) desc.read slot ≡ Some b.queued in
+          let z = moving_none start h.task b.queued in
+          let H : Progress → Option HeldTask → Type 0 = λ p o. left_at p o ≡ Some (record { task = h.task; progress = Active; moved = 0 }) in
+          moving l.is (record {
+            slot = slot;
+            task = h.task;
+            queued = b.queued;
+            command = execute_of slot desc;
+            start = start;
+            k = 0;
+            below = below;
+            due = is_told (Execute slot) i;
+            is_task = is_task;
+            taken = subst T (sym t.card) b.taken;
+            direction = b.direction;
+            sends = l.sends;
+            place = place.0;
+            is_at = ap (λ xs. slice_get xs place.0) (order_advanced state.regs.ring slot) ∙ place.1;
+            active = active;
+            others = others_advanced state.regs left slot (between on) refl;
+            runs = r;
+            within = omega arith;
+            phase = b.phase ∙ ap Some (phase_none b.queued);
+            held = ap (λ places. held_at places slot) l.leaves.held ∙ noted_at held left slot below
+                ∙ subst (λ p. H p (held_at held slot)) (sym active) (subst (H Active) (sym at) (ap (λ n. Some (record h { progress = Active; moved = n })) fresh));
+            tells = partly_from new (moving_state start h.task b.queued 0) held left l.leaves (ap (λ (x : RawState). x.memory) z ∙ sym memory) refl
+                (let B : RawState → Type 0 = λ x. Behinds new x.card in subst B (sym z) s.behind) (rung_advanced state.regs.ring slot rung)
+                (λ go. has_advanced held state.regs left state.tasks slot (has on) refl begun_ready);
+          })
+
+      by_word : (s : IsSent (execute_of slot desc) (λ g. after_execute g slot desc) state.card state.regs held old new outcome) (word : ℕ) (error : Bool) → s.answer ≡ Ok word
+          → ((places : Places) → after_execute (host_of places state.regs) slot desc (seen s.answer)
+          ≡ executed slot desc (host_of places (responded state.regs (index_of (execute_of slot desc)) word)) word)
+          → has_error word ≡ error → Stage state did new
+      by_word s word true answered e error = done (by_error s word e error)
+      by_word s word false answered e error = by_phase s word answered e error
+
+      by_execute : (s : IsSent (execute_of slot desc) (λ g. after_execute g slot desc) state.card state.regs held old new outcome)
+          → Led state.regs (execute_of slot desc) slot s.answer (executed slot desc) → Stage state did new
+      by_execute s (stops cause left stopped ring e) =
+          done (sent_stopped cause left (execute_of slot desc) (λ g. after_execute g slot desc) s e stopped ring (Execute slot) i
+          (λ sends. acts_so (Stopped cause) (sent_state state left (plain new.machine.card s.contents)) (refused sends (λ command x. cc x))) memory)
+      by_execute s (goes word answered e) = by_word s word (has_error word) answered e refl
