@@ -1,3 +1,4 @@
+pub mod Answered
 pub mod Falling
 pub mod Leading
 pub mod Mapped
