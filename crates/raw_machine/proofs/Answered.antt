@@ -1,7 +1,7 @@
 -- What a command that the card answered is in contents. A command looks at the queue, the extended CSD and the number of sectors alone, so a card
 -- that has these answers as the card itself.
 use Rattle.std.proofs.Common.{◌≡◌, ℕ, length, refl, sym, ◌∙◌, ap, subst, arith}
-use Rattle.std.specs.Prelude.{◌+◌, ◌^◌, ◌-◌, Bool, true, false, nat_lt, Option, Some, None, is_some, is_ok, cond, Result, Ok, Err, [], slice_index_or, unwrap_or}
+use Rattle.std.specs.Prelude.{◌+◌, Bool, true, false, nat_lt, Option, Some, None, is_some, is_ok, cond, Result, Ok, Err, [], slice_index_or, unwrap_or}
 use Rattle.std.specs.Bool.{MatchBool, beq}
 use Rattle.std.specs.Option.{option_map_or}
 use Rattle.std.specs.Result.{result_ok}
@@ -34,7 +34,6 @@ use Rattle.ext_csd.specs.declared.switch.Change.TheVariants.{Barrier, CacheOff, 
 use Rattle.storage_model.specs.Keep.{every_sector}
 use Rattle.storage_model.specs.declared.faults.BusKind.{BusKind}
 use Rattle.storage_model.specs.declared.faults.BusKind.TheVariants.{Lost}
-use Rattle.storage_model.specs.declared.faults.Hit.{Hit}
 use Rattle.task_queue.specs.Places.{Queue}
 use Rattle.task_queue.specs.Queue.{addressed, params_answer, take_answer}
 use Rattle.task_queue.specs.declared.queue.Queued.{Queued}
@@ -70,6 +69,12 @@ either_card : (held : Store) (b : Bool) (good bad good' bad' : CardState) → Is
 either_card held true good bad good' bad' y n = y
 either_card held false good bad good' bad' y n = n
 
+-- a task on a card of so many sectors gets its start sector
+abbrev placed : CardState → (start sectors : ℕ) → Task → Response
+placed card start sectors task =
+    cond (nat_lt sectors (start + task.blocks)) (Tell (word_of ADDRESS_OUT_OF_RANGE) (record card { queue = forgotten card.queue task }))
+    (accepted (record card { queue = addressed card.queue start }))
+
 module _ (old : CardState) (c : Contents) where
   itself : IsAlike old.store old (twin old c)
   itself = record { queue = refl; csd = refl; store = refl }
@@ -89,33 +94,15 @@ module _ (old : CardState) (c : Contents) where
   params_alike true task = (refl, record { queue = refl; csd = refl; store = refl })
   params_alike false task = refused_alike ILLEGAL_COMMAND
 
-  placed_alike : (past : Bool) (task : Task) (start : ℕ)
-      → AreAlike old.store
-      (cond past (Tell (word_of ADDRESS_OUT_OF_RANGE) (record old { queue = forgotten old.queue task }))
-          (accepted (record old { queue = addressed old.queue start })))
-      (cond past (Tell (word_of ADDRESS_OUT_OF_RANGE) (record (twin old c) { queue = forgotten old.queue task }))
-          (accepted (record (twin old c) { queue = addressed old.queue start })))
-  placed_alike true task start = (refl, record { queue = refl; csd = refl; store = refl })
-  placed_alike false task start = (refl, record { queue = refl; csd = refl; store = refl })
-
   address_alike : (start sectors : ℕ) (waiting : Option Task) → sectors ≡ length c.base
-      → AreAlike old.store
-      (option_map_or
-          (λ task. cond (nat_lt sectors (start + task.blocks)) (Tell (word_of ADDRESS_OUT_OF_RANGE) (record old { queue = forgotten old.queue task }))
-              (accepted (record old { queue = addressed old.queue start }))) waiting (refused old ILLEGAL_COMMAND))
-      (option_map_or
-          (λ task. cond (nat_lt (length c.base) (start + task.blocks))
-              (Tell (word_of ADDRESS_OUT_OF_RANGE) (record (twin old c) { queue = forgotten old.queue task }))
-              (accepted (record (twin old c) { queue = addressed old.queue start }))) waiting (refused (twin old c) ILLEGAL_COMMAND))
+      → AreAlike old.store (option_map_or (placed old start sectors) waiting (refused old ILLEGAL_COMMAND))
+      (option_map_or (placed (twin old c) start (length c.base)) waiting (refused (twin old c) ILLEGAL_COMMAND))
   address_alike start sectors None e = refused_alike ILLEGAL_COMMAND
   address_alike start sectors (Some task) e =
-      let P : ℕ → Type 0 = λ n. AreAlike old.store
-      (cond (nat_lt n (start + task.blocks)) (Tell (word_of ADDRESS_OUT_OF_RANGE) (record old { queue = forgotten old.queue task }))
-          (accepted (record old { queue = addressed old.queue start })))
-      (cond (nat_lt (length c.base) (start + task.blocks))
-          (Tell (word_of ADDRESS_OUT_OF_RANGE) (record (twin old c) { queue = forgotten old.queue task }))
-          (accepted (record (twin old c) { queue = addressed old.queue start }))) in
-      subst P (sym e) (placed_alike (nat_lt (length c.base) (start + task.blocks)) task start)
+      let P : ℕ → Type 0 = λ n. AreAlike old.store (placed old start n task) (placed (twin old c) start (length c.base) task) in
+      subst P (sym e)
+      (either_alike old.store (nat_lt (length c.base) (start + task.blocks)) _ _ _ _ (refl, record { queue = refl; csd = refl; store = refl })
+      (refl, record { queue = refl; csd = refl; store = refl }))
 
   execute_alike : (queued : Option Queued)
       → AreAlike old.store (option_map_or (λ q. accepted (with_begun old q)) queued (refused old ILLEGAL_COMMAND))
@@ -323,7 +310,7 @@ record IsBegun (on : Bool) (place : Option Queued) (word : ℕ) (old new : CardS
   pub array : after ≡ before
   pub follows : Follows
       (cond on (option_map_or (λ q. accepted (with_begun (twin old c) q)) place (refused (twin old c) ILLEGAL_COMMAND))
-          (refused (twin old c) ILLEGAL_COMMAND)) (plain old c) (Ok word) (plain new c)
+      (refused (twin old c) ILLEGAL_COMMAND)) (plain old c) (Ok word) (plain new c)
 
 not_refused : (word : ℕ) (answer : Result ℕ Dark) → has_error word ≡ false → answer ≡ Ok word → answer ≡ Ok (word_of ILLEGAL_COMMAND) → ⊥
 not_refused word answer none is told =
