@@ -148,7 +148,8 @@ chosen card (Execute read task) choice e = refl
 chosen card (Manage whole task) choice e = refl
 chosen card (Other index arg) choice e = refl
 
-plain_is : (card : CardState) (c : Contents) (queue : Queue) (csd : ExtCsd) (epoch : ℕ) → card.queue ≡ queue → card.csd ≡ csd
+-- a card of these parts, as a script sees it
+pub plain_is : (card : CardState) (c : Contents) (queue : Queue) (csd : ExtCsd) (epoch : ℕ) → card.queue ≡ queue → card.csd ≡ csd
     → card.store.cache.last ≡ epoch → plain card c ≡ record { queue = queue; csd = csd; contents = c; epoch = epoch }
 plain_is card c queue csd epoch q x e =
     let made : Queue → ExtCsd → ℕ → PlainCard = λ q x e. record { queue = q; csd = x; contents = c; epoch = e } in

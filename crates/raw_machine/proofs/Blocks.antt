@@ -27,7 +27,8 @@ use Rattle.storage_model.specs.Keep.{is_named}
 use Rattle.storage_model.specs.declared.block.Block.{Block}
 use Rattle.storage_model.specs.declared.faults.BusKind.{BusKind}
 use Rattle.raw_machine.specs.Moving.{block_read}
-use Rattle.raw_machine.specs.Telling.{IsQuietScript}
+use Rattle.raw_machine.specs.Telling.{IsQuietScript, plain}
+use Rattle.raw_machine.proofs.Answered.{plain_is}
 
 -- What a block that crossed the bus left: where the card's task has no such block nothing moved; else it moved, or the array failed or was cut.
 pub data BlockMoved (error : ErrorSet) (phase : DataPhase) (old new : Behind) (c : Contents) (f : Contents → Contents) : Result (Unit {0}) LinkEnd → Contents → Type 0 where
@@ -46,6 +47,7 @@ pub record MovesOne (error : ErrorSet) (phase : DataPhase) (old new : Behind) (c
   pub script : IsQuietScript new.script
   pub told : is_some new.array.told ≡ is_some old.array.told
   pub epoch : new.card.store.cache.last ≡ old.card.store.cache.last
+  pub others : plain new.card after ≡ record (plain old.card c) { contents = after }
 
 -- no block is bad
 unhit_block : (script : Script) (phase : Option DataPhase) → IsQuietScript script → bad_block script phase ≡ None
@@ -81,6 +83,9 @@ stayed error phase old new c f result answer over quiet stands seen u =
       script = quiet;
       told = ap (λ array. is_some array.told) u.array;
       epoch = ap (λ card. card.store.cache.last) u.card;
+      others =
+          plain_is new.card c old.card.queue old.card.csd old.card.store.cache.last (ap (λ card. card.queue) u.card) (ap (λ card. card.csd) u.card)
+          (ap (λ card. card.store.cache.last) u.card);
     }
 
 -- the store was called for the block, and this is how that call ended
@@ -90,6 +95,12 @@ served_end : (error : ErrorSet) (phase : DataPhase) (old new : Behind) (c : Cont
 served_end error phase old new c f (Ok _) more is = moved more is
 served_end error phase old new c f (Err Flash) more is = failed more is
 served_end error phase old new c f (Err PowerLost) more is = dark more is
+
+-- queue and extended CSD stay
+moved_others : (card : CardState) (phase : DataPhase) (end : End)
+    → ((by_end (moved_on card phase) card end).queue ≡ card.queue) × ((by_end (moved_on card phase) card end).csd ≡ card.csd)
+moved_others card phase (Ok _) = (refl, refl)
+moved_others card phase (Err end) = (refl, refl)
 
 served_one : (error : ErrorSet) (phase : DataPhase) (old new : Behind) (c : Contents) (f : Contents → Contents) (result : Result (Unit {0}) LinkEnd)
     (answer : Result (Unit {0}) BlockEnd) → phase.moved < phase.task.blocks → IsQuietScript new.script → StoreStands c old.card.store old.array
@@ -106,6 +117,10 @@ served_one error phase old new c f result answer more quiet stands seen s =
       script = quiet;
       told = s.ends.tells;
       epoch = s.store.last;
+      others =
+          plain_is new.card (by_end f same s.end c) old.card.queue old.card.csd old.card.store.cache.last
+          (ap (λ card. card.queue) s.card ∙ (moved_others old.card phase s.end).0) (ap (λ card. card.csd) s.card ∙ (moved_others old.card phase s.end).1)
+          s.store.last;
     }
 
 -- the script after a block is the one before it
@@ -228,6 +243,7 @@ pub record ClosesPhase (phase : DataPhase) (old new : Behind) (c : Contents) (re
   pub script : IsQuietScript new.script
   pub told : is_some new.array.told ≡ is_some old.array.told
   pub epoch : new.card.store.cache.last ≡ old.card.store.cache.last
+  pub others : plain new.card after ≡ record (plain old.card c) { contents = after }
 
 kept_end : (phase : DataPhase) (old new : Behind) (c : Contents) (end : End) → keeps_write old.card phase ≡ true
     → new.card ≡ record (finished old.card phase end) { store = new.card.store }
@@ -235,6 +251,12 @@ kept_end : (phase : DataPhase) (old new : Behind) (c : Contents) (end : End) →
 kept_end phase old new c (Ok _) must is = write_kept must is
 kept_end phase old new c (Err Flash) must is = write_failed must is
 kept_end phase old new c (Err PowerLost) must is = write_dark must is
+
+finished_others : (card : CardState) (phase : DataPhase) (end : End)
+    → ((finished card phase end).queue ≡ card.queue) × ((finished card phase end).csd ≡ card.csd)
+finished_others card phase (Ok _) = (refl, refl)
+finished_others card phase (Err Flash) = (refl, refl)
+finished_others card phase (Err PowerLost) = (refl, refl)
 
 closed_if : (phase : DataPhase) (old new : Behind) (c : Contents) (result : Result ℕ LinkEnd) (answer : Result ℕ Dark) (must : Bool)
     → keeps_write old.card phase ≡ must → IsQuietScript new.script → StoreStands c old.card.store old.array → result ≡ close_seen None answer
@@ -252,6 +274,10 @@ closed_if phase old new c result answer true must quiet stands seen s =
       script = quiet;
       told = s.ends.tells;
       epoch = s.store.last;
+      others =
+          plain_is new.card after old.card.queue old.card.csd old.card.store.cache.last
+          (ap (λ card. card.queue) s.card ∙ (finished_others old.card phase s.end).0)
+          (ap (λ card. card.csd) s.card ∙ (finished_others old.card phase s.end).1) s.store.last;
     }
 closed_if phase old new c result answer false must quiet stands seen u =
     let P : CardState → Type 0 = λ card. StoreStands c card.store old.array in
@@ -265,6 +291,9 @@ closed_if phase old new c result answer false must quiet stands seen u =
       script = quiet;
       told = ap (λ array. is_some array.told) u.array;
       epoch = ap (λ card. card.store.cache.last) u.card;
+      others =
+          plain_is new.card c old.card.queue old.card.csd old.card.store.cache.last (ap (λ card. card.queue) u.card) (ap (λ card. card.csd) u.card)
+          (ap (λ card. card.store.cache.last) u.card);
     }
 
 -- The end of a data phase.
