@@ -1,3 +1,5 @@
+pub mod Answered
+pub mod Blocks
 pub mod Falling
 pub mod Leading
 pub mod Mapped
