@@ -1,4 +1,6 @@
 pub mod Falling
+pub mod Kept
 pub mod Leading
 pub mod Mapped
+pub mod NextDue
 pub mod WorkLeft
