@@ -1,9 +1,9 @@
 -- The engine goes on holding its tasks through each event, and what each outcome leaves of the rung slots.
-use Rattle.std.proofs.Common.{◌≡◌, ◌≢◌, ◌⊎◌, ◌<◌, ◌++◌, ℕ, length, refl, sym, ◌∙◌, ap, subst, arith, inl, inr}
+use Rattle.std.proofs.Common.{◌≡◌, ◌≢◌, ◌<◌, ◌++◌, ℕ, length, refl, sym, ◌∙◌, ap, subst, arith, inl, inr}
 use Rattle.std.specs.Prelude.{Bool, true, false, not, ◌==◌, Option, Some, None, slice_set, cond, if◌then◌else◌, List, [], ◌∷◌, map}
 use Rattle.std.specs.List.{All, filter, find}
-use Rattle.std.specs.Option.{IsSomeAnd, option_map_or}
-use Rattle.std.proofs.lemmas.Bool.{eqb-true, false≢true}
+use Rattle.std.specs.Option.{IsSomeAnd, option_map, option_map_or}
+use Rattle.std.proofs.lemmas.Bool.{eq-eqb, eqb-true, false≢true, ne_eqb}
 use Rattle.std.proofs.lemmas.Bool.Decides.{eqb_tells}
 use Rattle.std.proofs.lemmas.List.Elements.{All-append, All-filter, All-map, All-nil}
 use Rattle.cq_regs.specs.declared.slots.Progress.{Progress}
@@ -14,7 +14,7 @@ use Rattle.cq_regs.specs.Slots.{advanced, first_slots, has_bit, is_rung, made_re
 use Rattle.cq_regs.proofs.ProgressLaws.{progress_made_ready}
 use Rattle.cq_task.specs.declared.slot.DataTask.{DataTask}
 use Rattle.cq_schedule.specs.declared.held.HeldTask.{HeldTask}
-use Rattle.cq_schedule.specs.Held.{Places, held_at, kept, left_at, newly_held, noted, remembered, same}
+use Rattle.cq_schedule.specs.Held.{Places, held_at, kept, left_at, newly_held, noted, remembered, same, with_block}
 use Rattle.cq_schedule.specs.Holding.{is_begun}
 use Rattle.cq_schedule.proofs.Progresses.{same-refl}
 use Rattle.cq_engine.proofs.Places.{set-other, set-same}
@@ -22,16 +22,18 @@ use Rattle.cq_engine.proofs.SlotLaws.{advanced-other, made_ready-begun, without-
 use Rattle.raw_machine.specs.Telling.{IsBetweenTasks, Keeps}
 use Rattle.raw_machine.proofs.WorkLeft.{advanced-same, kept-left, noted-at, remembered-at}
 
--- what is held of a slot is this task, as far as it is, or however far the engine left it
+-- What is held of a slot is this task, and no block of it moved where its data phase is not under way: as far as the slot is, or however far the
+-- engine left it.
 abbrev pub HoldsAt : Progress → Option DataTask → Option HeldTask → Type 0
-HoldsAt progress task place = IsSomeAnd place (λ h. (h.progress ≡ progress) × (task ≡ Some h.task))
+HoldsAt progress task place = IsSomeAnd place (λ h. (h.progress ≡ progress) × (task ≡ Some h.task) × (progress ≢ Active → h.moved ≡ 0))
 
-abbrev pub HasAt : Option DataTask → Option HeldTask → Type 0
-HasAt task place = IsSomeAnd place (λ h. task ≡ Some h.task)
+abbrev pub HasAt : Progress → Option DataTask → Option HeldTask → Type 0
+HasAt progress task place = IsSomeAnd place (λ h. (task ≡ Some h.task) × (progress ≢ Active → h.moved ≡ 0))
 
 -- the tasks of the slots that are begun are held, however far the engine left them
 abbrev pub Has : Places → Registers → (ℕ → Option DataTask) → Type 0
-Has held regs tasks = (slot : ℕ) → slot < 32 → is_begun (progress_of regs.ring slot) ≡ true → IsSomeAnd (held_at held slot) (λ h. tasks slot ≡ Some h.task)
+Has held regs tasks = (slot : ℕ) → slot < 32 → is_begun (progress_of regs.ring slot) ≡ true
+    → IsSomeAnd (held_at held slot) (λ h. (tasks slot ≡ Some h.task) × (progress_of regs.ring slot ≢ Active → h.moved ≡ 0))
 
 kept-same : (progress : Progress) (task : Option DataTask) (place : Option HeldTask) → HoldsAt progress task place → HoldsAt progress task (kept progress place)
 kept-same progress task None h = h
@@ -46,17 +48,17 @@ keeps_remembered held regs tasks keeps slot below begun =
     let P : Option HeldTask → Type 0 = λ place. HoldsAt (progress_of regs.ring slot) (tasks slot) place in
     subst P (sym (remembered-at held regs slot below)) (kept-same (progress_of regs.ring slot) (tasks slot) (held_at held slot) (keeps slot below begun))
 
-holds_has : (progress : Progress) (task : Option DataTask) (place : Option HeldTask) → HoldsAt progress task place → HasAt task place
+holds_has : (progress : Progress) (task : Option DataTask) (place : Option HeldTask) → HoldsAt progress task place → HasAt progress task place
 holds_has progress task None h = h
-holds_has progress task (Some held) h = h.1
+holds_has progress task (Some held) h = (h.1, h.2)
 
 pub keeps_has : (held : Places) (regs : Registers) (tasks : ℕ → Option DataTask) → Keeps held regs tasks → Has held regs tasks
 keeps_has held regs tasks keeps slot below begun =
     holds_has (progress_of regs.ring slot) (tasks slot) (held_at held slot) (keeps slot below begun)
 
-left-holds : (progress : Progress) (task : Option DataTask) (place : Option HeldTask) → HasAt task place → HoldsAt progress task (left_at progress place)
+left-holds : (progress : Progress) (task : Option DataTask) (place : Option HeldTask) → HasAt progress task place → HoldsAt progress task (left_at progress place)
 left-holds progress task None h = h
-left-holds progress task (Some held) h = (refl, h)
+left-holds progress task (Some held) h = (refl, h.0, h.1)
 
 -- at its end the engine notes how far each slot is
 pub has_noted : (held : Places) (regs : Registers) (tasks : ℕ → Option DataTask) → Has held regs tasks → Keeps (noted held regs) regs tasks
@@ -64,10 +66,13 @@ has_noted held regs tasks has slot below begun =
     let P : Option HeldTask → Type 0 = λ place. HoldsAt (progress_of regs.ring slot) (tasks slot) place in
     subst P (sym (noted-at held regs slot below)) (left-holds (progress_of regs.ring slot) (tasks slot) (held_at held slot) (has slot below begun))
 
+pub noted_at : (held : Places) (regs : Registers) (slot : ℕ) → slot < 32 → held_at (noted held regs) slot ≡ left_at (progress_of regs.ring slot) (held_at held slot)
+noted_at held regs slot below = noted-at held regs slot below
+
 -- at the next event's begin a place is what the last one left, with how far its slot is
-pub noted_at : (held : Places) (regs : Registers) (slot : ℕ) → slot < 32
+pub remembered_noted : (held : Places) (regs : Registers) (slot : ℕ) → slot < 32
     → held_at (remembered (noted held regs) regs) slot ≡ left_at (progress_of regs.ring slot) (held_at held slot)
-noted_at held regs slot below =
+remembered_noted held regs slot below =
     remembered-at (noted held regs) regs slot below
     ∙ ap (kept (progress_of regs.ring slot)) (noted-at held regs slot below)
     ∙ kept-left (progress_of regs.ring slot) (held_at held slot)
@@ -75,71 +80,94 @@ noted_at held regs slot below =
 begun_along : (p q : Progress) → p ≡ q → is_begun p ≡ true → is_begun q ≡ true
 begun_along p q e h = sym (ap is_begun e) ∙ h
 
-has_along : (task task' : Option DataTask) (place place' : Option HeldTask) → task' ≡ task → place' ≡ place → HasAt task place → HasAt task' place'
-has_along task task' place place' e f h =
-    let P : Option HeldTask → Type 0 = λ p. HasAt task' p in
-    let Q : Option DataTask → Type 0 = λ t. HasAt t place in
+-- A slot that is begun was begun, and its data phase is under way where it was.
+abbrev Onward : (p p' : Progress) → Type 0
+Onward p p' = is_begun p' ≡ true → (is_begun p ≡ true) × (p' ≢ Active → p ≢ Active)
+
+onward_same : (p p' : Progress) → p' ≡ p → Onward p p'
+onward_same p p' e begun = (begun_along p' p e begun, λ far is. far (e ∙ is))
+
+onward_idle : (p p' : Progress) → p' ≡ Idle → Onward p p'
+onward_idle p p' e begun = absurd (false≢true (begun_along p' Idle e begun))
+
+onward_next : (p p' : Progress) → p' ≡ next p → is_begun p ≡ true → Onward p p'
+onward_next p p' e was begun = (was, λ far is. far (e ∙ ap next is))
+
+onward_readied : (p p' : Progress) (b : Bool) → p' ≡ cond b (readied p) p → is_begun p' ≡ is_begun p → Onward p p'
+onward_readied p p' false e f begun = onward_same p p' e begun
+onward_readied p p' true e f begun = (sym f ∙ begun, λ far is. far (e ∙ ap readied is))
+
+has_further : (p p' : Progress) (task : Option DataTask) (place : Option HeldTask) → (p' ≢ Active → p ≢ Active) → HasAt p task place → HasAt p' task place
+has_further p p' task None on h = h
+has_further p p' task (Some held) on h = (h.0, λ far. h.1 (on far))
+
+has_along : (p : Progress) (task task' : Option DataTask) (place place' : Option HeldTask) → task' ≡ task → place' ≡ place → HasAt p task place → HasAt p task' place'
+has_along p task task' place place' e f h =
+    let P : Option HeldTask → Type 0 = λ o. HasAt p task' o in
+    let Q : Option DataTask → Type 0 = λ t. HasAt p t place in
     subst P (sym f) (subst Q (sym e) h)
 
--- a slot that is begun has its task, or was begun before and its place and its task are what they were
-abbrev Stays : (held held' : Places) (regs regs' : Registers) (tasks tasks' : ℕ → Option DataTask) (other : ℕ) → Type 0
-Stays held held' regs regs' tasks tasks' other =
-    is_begun (progress_of regs'.ring other) ≡ true
-    → HasAt (tasks' other) (held_at held' other)
-    ⊎ ((is_begun (progress_of regs.ring other) ≡ true) × (held_at held' other ≡ held_at held other) × (tasks' other ≡ tasks other))
+-- the tasks stay held of slots that were begun
+has_onward : (held : Places) (regs regs' : Registers) (tasks : ℕ → Option DataTask) → Has held regs tasks
+    → ((other : ℕ) → Onward (progress_of regs.ring other) (progress_of regs'.ring other)) → Has held regs' tasks
+has_onward held regs regs' tasks has onward other below begun =
+    let on = onward other begun in
+    has_further (progress_of regs.ring other) (progress_of regs'.ring other) (tasks other) (held_at held other) on.1 (has other below on.0)
 
-has_stayed : (held held' : Places) (regs regs' : Registers) (tasks tasks' : ℕ → Option DataTask) → Has held regs tasks
-    → ((other : ℕ) → Stays held held' regs regs' tasks tasks' other) → Has held' regs' tasks'
-has_stayed held held' regs regs' tasks tasks' has stays other below begun =
-    elim (stays other begun) [
-      | inl h ↦ h
-      | inr h ↦ has_along (tasks other) (tasks' other) (held_at held other) (held_at held' other) h.2 h.1 (has other below h.0)
+-- and where one place was written, of that slot too
+has_written : (held : Places) (regs regs' : Registers) (tasks tasks' : ℕ → Option DataTask) (slot : ℕ) (place : Option HeldTask) → Has held regs tasks
+    → ((other : ℕ) → other ≢ slot → progress_of regs'.ring other ≡ progress_of regs.ring other)
+    → ((other : ℕ) → other ≢ slot → tasks' other ≡ tasks other)
+    → (slot < 32 → is_begun (progress_of regs'.ring slot) ≡ true → HasAt (progress_of regs'.ring slot) (tasks' slot) (held_at (slice_set held slot place) slot))
+    → Has (slice_set held slot place) regs' tasks'
+has_written held regs regs' tasks tasks' slot place has rings others here other below begun =
+    elim (eqb_tells other slot) [
+      | inl t ↦
+          let P : ℕ → Type 0 =
+          λ n. n < 32 → is_begun (progress_of regs'.ring n) ≡ true → HasAt (progress_of regs'.ring n) (tasks' n) (held_at (slice_set held slot place) n) in
+          subst P (sym t.1) here below begun
+      | inr t ↦
+          let on = onward_same (progress_of regs.ring other) (progress_of regs'.ring other) (rings other t.1) begun in
+          has_along (progress_of regs'.ring other) (tasks other) (tasks' other) (held_at held other) (held_at (slice_set held slot place) other)
+          (others other t.1) (set-other held slot other place t.1)
+          (has_further (progress_of regs.ring other) (progress_of regs'.ring other) (tasks other) (held_at held other) on.1 (has other below on.0))
     ]
 
--- only the slots that were begun are
-pub has_begun : (held : Places) (regs regs' : Registers) (tasks : ℕ → Option DataTask) → Has held regs tasks
-    → ((other : ℕ) → is_begun (progress_of regs'.ring other) ≡ true → is_begun (progress_of regs.ring other) ≡ true) → Has held regs' tasks
-has_begun held regs regs' tasks has begins other below begun = has other below (begins other begun)
-
--- a slot that is idle now
-idle_now : (regs regs' : Registers) (slot other : ℕ) → regs'.ring ≡ without regs.ring slot → other ≡ slot
-    → is_begun (progress_of regs'.ring other) ≡ true → ⊥
-idle_now regs regs' slot other ring e begun =
-    let idle : progress_of regs'.ring other ≡ Idle =
-    ap (λ r. progress_of r other) ring ∙ ap (progress_of (without regs.ring slot)) e ∙ without-same regs.ring slot in
-    false≢true (begun_along (progress_of regs'.ring other) Idle idle begun)
+-- a slot that is idle now, and the others
+idle_now : (regs regs' : Registers) (slot other : ℕ) → regs'.ring ≡ without regs.ring slot → other ≡ slot → progress_of regs'.ring other ≡ Idle
+idle_now regs regs' slot other ring e =
+    ap (λ r. progress_of r other) ring ∙ ap (progress_of (without regs.ring slot)) e ∙ without-same regs.ring slot
 
 left_now : (regs regs' : Registers) (slot other : ℕ) → regs'.ring ≡ without regs.ring slot → other ≢ slot
     → progress_of regs'.ring other ≡ progress_of regs.ring other
 left_now regs regs' slot other ring apart = ap (λ r. progress_of r other) ring ∙ without-other regs.ring slot other apart
 
+-- a slot that moved on, and the others
+pub advanced_to : (regs regs' : Registers) (slot : ℕ) → regs'.ring ≡ advanced regs.ring slot
+    → progress_of regs'.ring slot ≡ next (progress_of regs.ring slot)
+advanced_to regs regs' slot ring = ap (λ r. progress_of r slot) ring ∙ advanced-same regs.ring slot
+
+advanced_now : (regs regs' : Registers) (slot other : ℕ) → regs'.ring ≡ advanced regs.ring slot → other ≢ slot
+    → progress_of regs'.ring other ≡ progress_of regs.ring other
+advanced_now regs regs' slot other ring apart = ap (λ r. progress_of r other) ring ∙ advanced-other regs.ring slot other apart
+
 -- a slot is dropped, or its direct command is complete
 pub has_idle : (held : Places) (regs regs' : Registers) (tasks : ℕ → Option DataTask) (slot : ℕ) → Has held regs tasks
     → regs'.ring ≡ without regs.ring slot → Has held regs' tasks
 has_idle held regs regs' tasks slot has ring =
-    has_begun held regs regs' tasks has
-    (λ other begun.
+    has_onward held regs regs' tasks has
+    (λ other.
     elim (eqb_tells other slot) [
-      | inl t ↦ absurd (idle_now regs regs' slot other ring t.1 begun)
-      | inr t ↦ begun_along (progress_of regs'.ring other) (progress_of regs.ring other) (left_now regs regs' slot other ring t.1) begun
+      | inl t ↦ onward_idle (progress_of regs.ring other) (progress_of regs'.ring other) (idle_now regs regs' slot other ring t.1)
+      | inr t ↦ onward_same (progress_of regs.ring other) (progress_of regs'.ring other) (left_now regs regs' slot other ring t.1)
     ])
 
 -- the task of a slot is complete
 pub has_finished : (held : Places) (regs regs' : Registers) (tasks : ℕ → Option DataTask) (slot : ℕ) → Has held regs tasks
     → regs'.ring ≡ without regs.ring slot → Has (slice_set held slot None) regs' tasks
 has_finished held regs regs' tasks slot has ring =
-    has_stayed held (slice_set held slot None) regs regs' tasks tasks has
-    (λ other begun.
-    elim (eqb_tells other slot) [
-      | inl t ↦ absurd (idle_now regs regs' slot other ring t.1 begun)
-      | inr t ↦
-          inr (begun_along (progress_of regs'.ring other) (progress_of regs.ring other) (left_now regs regs' slot other ring t.1) begun, set-other held slot other None t.1, refl)
-    ])
-
--- one slot moved on, and the others did not
-advanced_now : (regs regs' : Registers) (slot other : ℕ) → regs'.ring ≡ advanced regs.ring slot → other ≢ slot
-    → progress_of regs'.ring other ≡ progress_of regs.ring other
-advanced_now regs regs' slot other ring apart = ap (λ r. progress_of r other) ring ∙ advanced-other regs.ring slot other apart
+    has_written held regs regs' tasks tasks slot None has (λ other apart. left_now regs regs' slot other ring apart) (λ other apart. refl)
+    (λ below begun. absurd (false≢true (begun_along (progress_of regs'.ring slot) Idle (idle_now regs regs' slot slot ring refl) begun)))
 
 -- a slot is named, and its task is held
 pub has_named : (held : Places) (regs regs' : Registers) (tasks : ℕ → Option DataTask) (slot : ℕ) (task : DataTask) → length held ≡ 32 → slot < 32
@@ -147,70 +175,91 @@ pub has_named : (held : Places) (regs regs' : Registers) (tasks : ℕ → Option
     → Has (slice_set held slot (Some (newly_held task))) regs' (λ other. if other == slot then Some task else tasks other)
 has_named held regs regs' tasks slot task long below has ring =
     let tasks' : ℕ → Option DataTask = λ other. cond (other == slot) (Some task) (tasks other) in
-    let held' = slice_set held slot (Some (newly_held task)) in
+    let place = Some (newly_held task) in
     let inside : slot < length held = omega (arith, below, long) in
-    has_stayed held held' regs regs' tasks tasks' has
-    (λ other begun.
-    elim (eqb_tells other slot) [
-      | inl t ↦
-          let place : held_at held' other ≡ Some (newly_held task) =
-          ap (held_at held') t.1 ∙ set-same held slot (Some (newly_held task)) inside in
-          inl (has_along (Some task) (tasks' other) (Some (newly_held task)) (held_at held' other) (ap (λ b. cond b (Some task) (tasks other)) t.0) place refl)
-      | inr t ↦
-          inr (begun_along (progress_of regs'.ring other) (progress_of regs.ring other) (advanced_now regs regs' slot other ring t.1) begun, set-other held slot other (Some (newly_held task)) t.1, ap (λ b. cond b (Some task) (tasks other)) t.0)
-    ])
+    let here : tasks' slot ≡ Some task = ap (λ b. cond b (Some task) (tasks slot)) (eq-eqb slot slot refl) in
+    has_written held regs regs' tasks tasks' slot place has (λ other apart. advanced_now regs regs' slot other ring apart)
+    (λ other apart. ap (λ b. cond b (Some task) (tasks other)) (ne_eqb other slot apart))
+    (λ _ begun.
+    has_along (progress_of regs'.ring slot) (Some task) (tasks' slot) place (held_at (slice_set held slot place) slot) here
+    (set-same held slot place inside) (refl, λ _. refl))
 
 -- a slot that was begun moved on
 pub has_advanced : (held : Places) (regs regs' : Registers) (tasks : ℕ → Option DataTask) (slot : ℕ) → Has held regs tasks
     → regs'.ring ≡ advanced regs.ring slot → is_begun (progress_of regs.ring slot) ≡ true → Has held regs' tasks
 has_advanced held regs regs' tasks slot has ring was =
-    has_begun held regs regs' tasks has
-    (λ other begun.
+    has_onward held regs regs' tasks has
+    (λ other.
     elim (eqb_tells other slot) [
-      | inl t ↦ begun_along (progress_of regs.ring slot) (progress_of regs.ring other) (ap (progress_of regs.ring) (sym t.1)) was
-      | inr t ↦ begun_along (progress_of regs'.ring other) (progress_of regs.ring other) (advanced_now regs regs' slot other ring t.1) begun
+      | inl t ↦
+          let P : ℕ → Type 0 = λ n. Onward (progress_of regs.ring n) (progress_of regs'.ring n) in
+          subst P (sym t.1) (onward_next (progress_of regs.ring slot) (progress_of regs'.ring slot) (advanced_to regs regs' slot ring) was)
+      | inr t ↦ onward_same (progress_of regs.ring other) (progress_of regs'.ring other) (advanced_now regs regs' slot other ring t.1)
     ])
 
 -- a poll made slots ready
 pub has_readied : (held : Places) (regs regs' : Registers) (tasks : ℕ → Option DataTask) (word : ℕ) → Has held regs tasks
     → regs'.ring ≡ made_ready regs.ring word → Has held regs' tasks
 has_readied held regs regs' tasks word has ring =
-    has_begun held regs regs' tasks has
-    (λ other begun. sym (made_ready-begun regs.ring word other) ∙ sym (ap (λ r. is_begun (progress_of r other)) ring) ∙ begun)
+    has_onward held regs regs' tasks has
+    (λ other.
+    onward_readied (progress_of regs.ring other) (progress_of regs'.ring other) (has_bit word other)
+    (ap (λ r. progress_of r other) ring ∙ progress_made_ready regs.ring word other)
+    (ap (λ r. is_begun (progress_of r other)) ring ∙ made_ready-begun regs.ring word other))
 
 -- the slots are as far as they were
 pub has_same : (held : Places) (regs regs' : Registers) (tasks : ℕ → Option DataTask) → Has held regs tasks → regs'.ring ≡ regs.ring → Has held regs' tasks
 has_same held regs regs' tasks has ring =
-    has_begun held regs regs' tasks has (λ other begun. sym (ap (λ r. is_begun (progress_of r other)) ring) ∙ begun)
+    has_onward held regs regs' tasks has
+    (λ other. onward_same (progress_of regs.ring other) (progress_of regs'.ring other) (ap (λ r. progress_of r other) ring))
+
+counted_at : (progress : Progress) (task : Option DataTask) (place : Option HeldTask) → progress ≡ Active → HasAt progress task place
+    → HasAt progress task (option_map with_block place)
+counted_at progress task None is h = h
+counted_at progress task (Some held) is h = (h.0, λ far. absurd (far is))
+
+-- a block of the data phase of a slot moved
+pub has_counted : (held : Places) (regs regs' : Registers) (tasks : ℕ → Option DataTask) (slot : ℕ) → length held ≡ 32 → slot < 32 → Has held regs tasks
+    → regs'.ring ≡ regs.ring → progress_of regs.ring slot ≡ Active
+    → Has (slice_set held slot (option_map with_block (held_at held slot))) regs' tasks
+has_counted held regs regs' tasks slot long below has ring is =
+    let place = option_map with_block (held_at held slot) in
+    let inside : slot < length held = omega (arith, below, long) in
+    let now : progress_of regs'.ring slot ≡ Active = ap (λ r. progress_of r slot) ring ∙ is in
+    has_written held regs regs' tasks tasks slot place has (λ other apart. ap (λ r. progress_of r other) ring) (λ other apart. refl)
+    (λ _ begun.
+    has_along (progress_of regs'.ring slot) (tasks slot) (tasks slot) place (held_at (slice_set held slot place) slot) refl
+    (set-same held slot place inside)
+    (counted_at (progress_of regs'.ring slot) (tasks slot) (held_at held slot) now (has_same held regs regs' tasks has ring slot below begun)))
 
 -- each slot in the list is rung
-abbrev pub AreRung : List Ringed → Type 0
-AreRung ring = All (λ r. is_rung r.progress ≡ true) ring
+abbrev pub AllRung : List Ringed → Type 0
+AllRung ring = All (λ r. is_rung r.progress ≡ true) ring
 
-pub rung_none : AreRung []
+pub rung_none : AllRung []
 rung_none = All-nil (λ r. is_rung r.progress ≡ true)
 
-pub rung_without : (ring : List Ringed) (slot : ℕ) → AreRung ring → AreRung (without ring slot)
+pub rung_without : (ring : List Ringed) (slot : ℕ) → AllRung ring → AllRung (without ring slot)
 rung_without ring slot all = All-filter (λ r. not (r.slot == slot)) (λ r. is_rung r.progress ≡ true) ring all
 
-pub rung_without_slots : (ring : List Ringed) (word : ℕ) → AreRung ring → AreRung (without_slots ring word)
+pub rung_without_slots : (ring : List Ringed) (word : ℕ) → AllRung ring → AllRung (without_slots ring word)
 rung_without_slots ring word all = All-filter (λ r. not (has_bit word r.slot)) (λ r. is_rung r.progress ≡ true) ring all
 
-rung-next : (p : Progress) → is_rung p ≡ true → is_rung (next p) ≡ true
-rung-next Idle h = h
-rung-next Rung h = refl
-rung-next Named h = refl
-rung-next Sent h = refl
-rung-next Ready h = refl
-rung-next Active h = refl
+still_rung_next : (p : Progress) → is_rung p ≡ true → is_rung (next p) ≡ true
+still_rung_next Idle h = h
+still_rung_next Rung h = refl
+still_rung_next Named h = refl
+still_rung_next Sent h = refl
+still_rung_next Ready h = refl
+still_rung_next Active h = refl
 
-rung-readied : (p : Progress) → is_rung p ≡ true → is_rung (readied p) ≡ true
-rung-readied Idle h = h
-rung-readied Rung h = refl
-rung-readied Named h = refl
-rung-readied Sent h = refl
-rung-readied Ready h = refl
-rung-readied Active h = refl
+still_rung_readied : (p : Progress) → is_rung p ≡ true → is_rung (readied p) ≡ true
+still_rung_readied Idle h = h
+still_rung_readied Rung h = refl
+still_rung_readied Named h = refl
+still_rung_readied Sent h = refl
+still_rung_readied Ready h = refl
+still_rung_readied Active h = refl
 
 rung_if : (b : Bool) (r : Ringed) (p : Progress) → is_rung p ≡ true → is_rung r.progress ≡ true
     → is_rung (cond b (record r { progress = p }) r).progress ≡ true
@@ -218,19 +267,19 @@ rung_if true r p h k = h
 rung_if false r p h k = k
 
 rung_map : (f : Ringed → Ringed) (ring : List Ringed) → ((r : Ringed) → is_rung r.progress ≡ true → is_rung (f r).progress ≡ true)
-    → AreRung ring → AreRung (map f ring)
+    → AllRung ring → AllRung (map f ring)
 rung_map f ring each all =
     All-map (λ r. is_rung r.progress ≡ true) f ring (λ k d inside. each _ (all k d inside))
 
-pub rung_advanced : (ring : List Ringed) (slot : ℕ) → AreRung ring → AreRung (advanced ring slot)
+pub rung_advanced : (ring : List Ringed) (slot : ℕ) → AllRung ring → AllRung (advanced ring slot)
 rung_advanced ring slot all =
-    rung_map (moved_at slot) ring (λ r h. rung_if (r.slot == slot) r (next r.progress) (rung-next r.progress h) h) all
+    rung_map (moved_at slot) ring (λ r h. rung_if (r.slot == slot) r (next r.progress) (still_rung_next r.progress h) h) all
 
-pub rung_made_ready : (ring : List Ringed) (word : ℕ) → AreRung ring → AreRung (made_ready ring word)
-rung_made_ready ring word all =
-    rung_map (readied_by word) ring (λ r h. rung_if (has_bit word r.slot) r (readied r.progress) (rung-readied r.progress h) h) all
+pub rung_readied : (ring : List Ringed) (word : ℕ) → AllRung ring → AllRung (made_ready ring word)
+rung_readied ring word all =
+    rung_map (readied_by word) ring (λ r h. rung_if (has_bit word r.slot) r (readied r.progress) (still_rung_readied r.progress h) h) all
 
-pub rung_rung : (ring : List Ringed) (doorbells : ℕ) → AreRung ring → AreRung (rung ring doorbells)
+pub rung_rung : (ring : List Ringed) (doorbells : ℕ) → AllRung ring → AllRung (rung ring doorbells)
 rung_rung ring doorbells all =
     let more : List ℕ = filter (rings ring doorbells) (first_slots 32) in
     All-append (λ r. is_rung r.progress ≡ true) ring (map newly_rung more) all
@@ -240,17 +289,17 @@ rung_rung ring doorbells all =
 abbrev pub IsBetween : Progress → Type 0
 IsBetween p = (p ≢ Named) × (p ≢ Active)
 
-between_idle : IsBetween Idle
-between_idle = (λ e. absurd (cc e), λ e. absurd (cc e))
+idle_between : IsBetween Idle
+idle_between = (λ e. absurd (cc e), λ e. absurd (cc e))
 
-between_rung : IsBetween Rung
-between_rung = (λ e. absurd (cc e), λ e. absurd (cc e))
+rung_between : IsBetween Rung
+rung_between = (λ e. absurd (cc e), λ e. absurd (cc e))
 
-between_sent : IsBetween Sent
-between_sent = (λ e. absurd (cc e), λ e. absurd (cc e))
+sent_between : IsBetween Sent
+sent_between = (λ e. absurd (cc e), λ e. absurd (cc e))
 
-between_ready : IsBetween Ready
-between_ready = (λ e. absurd (cc e), λ e. absurd (cc e))
+ready_between : IsBetween Ready
+ready_between = (λ e. absurd (cc e), λ e. absurd (cc e))
 
 between_along : (p q : Progress) → q ≡ p → IsBetween p → IsBetween q
 between_along p q e h = subst IsBetween (sym e) h
@@ -267,27 +316,22 @@ between_same regs regs' between ring other =
     between_along (progress_of regs.ring other) (progress_of regs'.ring other) (ap (λ r. progress_of r other) ring) (between other)
 
 pub between_none : (regs : Registers) → regs.ring ≡ [] → IsBetweenTasks regs
-between_none regs ring other = between_along Idle (progress_of regs.ring other) (ap (λ r. progress_of r other) ring) between_idle
+between_none regs ring other = between_along Idle (progress_of regs.ring other) (ap (λ r. progress_of r other) ring) idle_between
 
 -- that slot is idle now
-pub between_removed : (regs regs' : Registers) (slot : ℕ) → IsBetweenBut slot regs → regs'.ring ≡ without regs.ring slot → IsBetweenTasks regs'
-between_removed regs regs' slot others ring other =
+pub between_ended : (regs regs' : Registers) (slot : ℕ) → IsBetweenBut slot regs → regs'.ring ≡ without regs.ring slot → IsBetweenTasks regs'
+between_ended regs regs' slot others ring other =
     elim (eqb_tells other slot) [
       | inl t ↦
-          between_along Idle (progress_of regs'.ring other)
-          (ap (λ r. progress_of r other) ring ∙ ap (progress_of (without regs.ring slot)) t.1 ∙ without-same regs.ring slot) between_idle
+          between_along Idle (progress_of regs'.ring other) (idle_now regs regs' slot other ring t.1) idle_between
       | inr t ↦
           between_along (progress_of regs.ring other) (progress_of regs'.ring other) (left_now regs regs' slot other ring t.1) (others other t.1)
     ]
 
 pub between_without : (regs regs' : Registers) (slot : ℕ) → IsBetweenTasks regs → regs'.ring ≡ without regs.ring slot → IsBetweenTasks regs'
-between_without regs regs' slot between ring = between_removed regs regs' slot (between_but regs slot between) ring
+between_without regs regs' slot between ring = between_ended regs regs' slot (between_but regs slot between) ring
 
 -- a slot moved on, and the others are as they were
-pub advanced_to : (regs regs' : Registers) (slot : ℕ) → regs'.ring ≡ advanced regs.ring slot
-    → progress_of regs'.ring slot ≡ next (progress_of regs.ring slot)
-advanced_to regs regs' slot ring = ap (λ r. progress_of r slot) ring ∙ advanced-same regs.ring slot
-
 pub but_advanced : (regs regs' : Registers) (slot : ℕ) → IsBetweenBut slot regs → regs'.ring ≡ advanced regs.ring slot → IsBetweenBut slot regs'
 but_advanced regs regs' slot others ring other apart =
     between_along (progress_of regs.ring other) (progress_of regs'.ring other) (advanced_now regs regs' slot other ring apart) (others other apart)
@@ -296,31 +340,34 @@ pub but_same : (regs regs' : Registers) (slot : ℕ) → IsBetweenBut slot regs 
 but_same regs regs' slot others ring other apart =
     between_along (progress_of regs.ring other) (progress_of regs'.ring other) (ap (λ r. progress_of r other) ring) (others other apart)
 
+pub others_advanced : (regs regs' : Registers) (slot : ℕ) → IsBetweenTasks regs → regs'.ring ≡ advanced regs.ring slot → IsBetweenBut slot regs'
+others_advanced regs regs' slot between ring = but_advanced regs regs' slot (between_but regs slot between) ring
+
 -- the slot that was named is sent now
-pub between_advanced : (regs regs' : Registers) (slot : ℕ) → IsBetweenBut slot regs → progress_of regs.ring slot ≡ Named
+pub between_sent : (regs regs' : Registers) (slot : ℕ) → progress_of regs.ring slot ≡ Named → IsBetweenBut slot regs
     → regs'.ring ≡ advanced regs.ring slot → IsBetweenTasks regs'
-between_advanced regs regs' slot others is ring other =
+between_sent regs regs' slot is others ring other =
     elim (eqb_tells other slot) [
       | inl t ↦
           between_along Sent (progress_of regs'.ring other)
-          (ap (progress_of regs'.ring) t.1 ∙ advanced_to regs regs' slot ring ∙ ap next is) between_sent
+          (ap (progress_of regs'.ring) t.1 ∙ advanced_to regs regs' slot ring ∙ ap next is) sent_between
       | inr t ↦ but_advanced regs regs' slot others ring other t.1
     ]
 
-between_readied : (b : Bool) (p : Progress) → IsBetween p → IsBetween (cond b (readied p) p)
-between_readied false p h = h
-between_readied true Idle h = h
-between_readied true Rung h = h
-between_readied true Named h = h
-between_readied true Sent h = between_ready
-between_readied true Ready h = h
-between_readied true Active h = h
+readied_between : (b : Bool) (p : Progress) → IsBetween p → IsBetween (cond b (readied p) p)
+readied_between false p h = h
+readied_between true Idle h = h
+readied_between true Rung h = h
+readied_between true Named h = h
+readied_between true Sent h = ready_between
+readied_between true Ready h = h
+readied_between true Active h = h
 
-pub between_made_ready : (regs regs' : Registers) (word : ℕ) → IsBetweenTasks regs → regs'.ring ≡ made_ready regs.ring word → IsBetweenTasks regs'
-between_made_ready regs regs' word between ring other =
+pub between_readied : (regs regs' : Registers) (word : ℕ) → IsBetweenTasks regs → regs'.ring ≡ made_ready regs.ring word → IsBetweenTasks regs'
+between_readied regs regs' word between ring other =
     between_along (cond (has_bit word other) (readied (progress_of regs.ring other)) (progress_of regs.ring other)) (progress_of regs'.ring other)
     (ap (λ r. progress_of r other) ring ∙ progress_made_ready regs.ring word other)
-    (between_readied (has_bit word other) (progress_of regs.ring other) (between other))
+    (readied_between (has_bit word other) (progress_of regs.ring other) (between other))
 
 -- the first entry decides, or the others do
 first_or : (b : Bool) (r : Ringed) (rest : Option Ringed)
@@ -362,7 +409,7 @@ progress_rung_or P regs regs' doorbells slot ring h old =
     subst Q (sym ring) (behind P regs.ring (filter (rings regs.ring doorbells) (first_slots 32)) slot h old)
 
 pub between_doorbell : (regs regs' : Registers) (doorbells : ℕ) → IsBetweenTasks regs → regs'.ring ≡ rung regs.ring doorbells → IsBetweenTasks regs'
-between_doorbell regs regs' doorbells between ring other = progress_rung_or IsBetween regs regs' doorbells other ring between_rung (between other)
+between_doorbell regs regs' doorbells between ring other = progress_rung_or IsBetween regs regs' doorbells other ring rung_between (between other)
 
 -- without the slots that fail a test: a slot is as far as it was, or is idle
 dropped_first : (P : Progress → Type 0) (keep b : Bool) (r : Ringed) (rest : List Ringed) (slot : ℕ) (p : Progress) → (r.slot == slot) ≡ b → P Idle
@@ -403,7 +450,7 @@ progress_left_or P regs regs' word slot ring idle old =
     subst Q (sym ring) (left_or P (λ n. not (has_bit word n)) regs.ring slot idle old)
 
 pub between_without_slots : (regs regs' : Registers) (word : ℕ) → IsBetweenTasks regs → regs'.ring ≡ without_slots regs.ring word → IsBetweenTasks regs'
-between_without_slots regs regs' word between ring other = progress_left_or IsBetween regs regs' word other ring between_idle (between other)
+between_without_slots regs regs' word between ring other = progress_left_or IsBetween regs regs' word other ring idle_between (between other)
 
 -- The engine keeps its tasks where each slot that is begun is as far as it was.
 keeps_as_far : (held : Places) (regs regs' : Registers) (tasks : ℕ → Option DataTask) → Keeps held regs tasks

@@ -2,7 +2,7 @@
 use Rattle.std.proofs.Common.{◌≡◌, ◌≢◌, ◌<◌, ◌&&◌, ℕ, zero, suc, length, refl, sym, ◌∙◌, ap, subst, arith, zero-add, inl, inr, ⊎_elim}
 use Rattle.std.specs.Prelude.{Bool, true, false, nat_lt, ◌==◌, Option, Some, None, slice_get, cond, List, [], ◌∷◌, map, take}
 use Rattle.std.specs.List.{All, find, position_or_len}
-use Rattle.std.specs.Option.{IsSomeAnd, MatchOption, option_map, option_map_or}
+use Rattle.std.specs.Option.{MatchOption, option_map, option_map_or}
 use Rattle.std.proofs.lemmas.Bool.{cases_lt, eq-eqb, false_from_ne_true, or_left, or_right}
 use Rattle.std.proofs.lemmas.Bool.Decides.{eqb_tells}
 use Rattle.std.proofs.lemmas.List.{get_or_past}
@@ -27,6 +27,7 @@ use Rattle.cq_schedule.specs.Order.{blocks_of, first_at, first_high, has_flag, i
 use Rattle.cq_schedule.proofs.Progresses.{same-refl, same-true}
 use Rattle.raw_machine.specs.State.{places_of}
 use Rattle.raw_machine.specs.Telling.{IsBetweenTasks, Keeps}
+use Rattle.raw_machine.proofs.Kept.{HoldsAt}
 
 -- a search that finds nothing, one that finds the only slot that passes, and two searches for the same
 find_none : (p : ℕ → Bool) (xs : List ℕ) → ((x : ℕ) → p x ≡ false) → find p xs ≡ None
@@ -147,15 +148,15 @@ before_is held regs between =
     (first_none Named regs.ring (λ slot. (between slot).0))
 
 -- what can be due between tasks
-pub data IsWhole : Due → Type 0 where
-  rest : IsWhole Rest
-  tick : IsWhole Tick
-  poll : IsWhole Poll
-  serve : (slot : ℕ) → IsWhole (Serve slot)
-  execute : (slot : ℕ) → IsWhole (Execute slot)
+pub data IsBetweenDue : Due → Type 0 where
+  rest : IsBetweenDue Rest
+  tick : IsBetweenDue Tick
+  poll : IsBetweenDue Poll
+  serve : (slot : ℕ) → IsBetweenDue (Serve slot)
+  execute : (slot : ℕ) → IsBetweenDue (Execute slot)
 
 whole_then : (served high ready sent : Option ℕ)
-    → IsWhole (option_map_or Serve served (option_map_or Execute high (option_map_or Execute ready (option_map_or (λ _. Poll) sent Tick))))
+    → IsBetweenDue (option_map_or Serve served (option_map_or Execute high (option_map_or Execute ready (option_map_or (λ _. Poll) sent Tick))))
 whole_then (Some slot) high ready sent = serve slot
 whole_then None (Some slot) ready sent = execute slot
 whole_then None None (Some slot) sent = execute slot
@@ -163,13 +164,13 @@ whole_then None None None (Some slot) = poll
 whole_then None None None None = tick
 
 whole_by : (held : Places) (regs : Registers) (memory : Memory) (resting : Bool) (due : Due)
-    → MatchOption (cond resting (Some Rest) None) (IsDueThen held regs memory due) (λ then. due ≡ then) → IsWhole due
-whole_by held regs memory true due is = subst IsWhole (sym is) rest
+    → MatchOption (cond resting (Some Rest) None) (IsDueThen held regs memory due) (λ then. due ≡ then) → IsBetweenDue due
+whole_by held regs memory true due is = subst IsBetweenDue (sym is) rest
 whole_by held regs memory false due is =
-    subst IsWhole (sym is.is) (whole_then is.served (first_high held regs.ring) (first_at Ready regs.ring) (first_at Sent regs.ring))
+    subst IsBetweenDue (sym is.is) (whole_then is.served (first_high held regs.ring) (first_at Ready regs.ring) (first_at Sent regs.ring))
 
 -- no block is due, no close and no start sector
-pub not_under_way : (held : Places) (regs : Registers) (memory : Memory) (due : Due) → IsBetweenTasks regs → IsDue held regs memory due → IsWhole due
+pub not_under_way : (held : Places) (regs : Registers) (memory : Memory) (due : Due) → IsBetweenTasks regs → IsDue held regs memory due → IsBetweenDue due
 not_under_way held regs memory due between is =
     whole_by held regs memory (rests regs) due
     (due_by held regs memory (cond (rests regs) (Some Rest) None) due (before_is held regs between) is)
@@ -281,7 +282,7 @@ abbrev tells : (DataTask → Bool) → Option HeldTask → Bool
 tells f place = option_map_or (λ h. f h.task) place false
 
 told_by : (f : DataTask → Bool) (place : Option HeldTask) (task : Option DataTask) (progress : Progress)
-    → IsSomeAnd place (λ h. (h.progress ≡ progress) × (task ≡ Some h.task)) → tells f place ≡ tells f (option_map newly_held task)
+    → HoldsAt progress task place → tells f place ≡ tells f (option_map newly_held task)
 told_by f None task progress h = absurd h
 told_by f (Some held) task progress h = sym (ap (λ t. tells f (option_map newly_held t)) h.1)
 
