@@ -20,10 +20,11 @@ pub record IsQuietScript (script : Script) : Type 0 where
   pub ready : script.ready ≡ []
   pub hit : script.hit ≡ None
 
--- the engine holds these tasks of the slots that are named and not complete
+-- the engine holds these tasks of the slots that are named and not complete, and no block moved of one whose data phase is not under way
 abbrev pub Keeps : Places → Registers → (ℕ → Option DataTask) → Type 0
 Keeps held regs tasks = (slot : ℕ) → slot < 32 → is_begun (progress_of regs.ring slot) ≡ true
-    → IsSomeAnd (held_at held slot) (λ h. (h.progress ≡ progress_of regs.ring slot) × (tasks slot ≡ Some h.task))
+    → IsSomeAnd (held_at held slot)
+    (λ h. (h.progress ≡ progress_of regs.ring slot) × (tasks slot ≡ Some h.task) × (progress_of regs.ring slot ≢ Active → h.moved ≡ 0))
 
 -- no task waits for its start sector, and no data phase is under way
 abbrev pub IsBetweenTasks : Registers → Type 0
