@@ -4,10 +4,7 @@ use Rattle.std.specs.Option.{option_map_or}
 use Rattle.std.proofs.lemmas.Bool.{false≢true}
 use Rattle.array_edge.specs.Array.{ArrayState}
 use Rattle.card_core.specs.Card.{CardState, sectors}
-use Rattle.card_core.specs.Response.{Responds, Response, accepted, refused, response_to}
-use Rattle.card_core.specs.declared.ends.Dark.{Dark}
-use Rattle.raw_machine.specs.Answering.{Answers, Follows, all_ready, card_of}
-use Rattle.cmd_words.specs.declared.status.TheConstants.Status.{ILLEGAL_COMMAND}
+use Rattle.raw_machine.specs.Answering.{Answers}
 use Rattle.card_store.specs.Store.{Contents, IsSameStore, Stands as StoreStands, Turns}
 use Rattle.card_store.proofs.Turning.{ok_also}
 use Rattle.cmd_words.specs.declared.command.Command.TheVariants.{Manage}
@@ -38,14 +35,13 @@ use Rattle.raw_machine.specs.Running.{GoesOn, Happens, Step, end_after, goes_on,
 use Rattle.raw_machine.specs.Tasks.{Works, WorksOn}
 use Rattle.raw_machine.specs.State.{PlainCard, RawState, turned, with_registers}
 use Rattle.raw_machine.specs.Telling.{Tells, plain}
+use Rattle.raw_machine.proofs.Answered.{IsAnswered, answered}
 use Rattle.raw_text.specs.declared.op.RawOp.{RawOp}
 use Rattle.raw_text.specs.declared.op.RawOp.TheVariants.{Poke, Fill, Peek, Write, Read, Go, Show, Discard}
 use Rattle.storage_model.specs.Contents.{contents_now, sector_at}
 use Rattle.storage_model.specs.declared.block.Block.{Block}
 use Rattle.storage_model.specs.declared.ends.Halt.{Halt}
 use Rattle.storage_model.specs.declared.ends.Halt.TheVariants.{SinkFailed, OpenFault, PowerGone, BadImage}
-use Rattle.task_queue.specs.Places.{Queue}
-use Rattle.task_queue.specs.Queue.{discarded}
 
 -- the memory accessed
 
@@ -121,7 +117,8 @@ tells_registers old state regs calm t = record {
   tasks = λ runs slot below begun.
       let c = calm.begun slot begun in
       let B : Progress → Type 0 = λ p. is_begun p ≡ true in
-      let P : Progress → Type 0 = λ p. IsSomeAnd (held_at old.machine.engine.held slot) (λ h. (h.progress ≡ p) × (state.tasks slot ≡ Some h.task)) in
+      let P : Progress → Type 0 = λ p. IsSomeAnd (held_at old.machine.engine.held slot) 
+      (λ h. (h.progress ≡ p) × (state.tasks slot ≡ Some h.task) × (p ≢ Active → h.moved ≡ 0)) in
       subst P c.1 (t.tasks (sym c.0 ∙ runs) slot below (subst B (sym c.1) begun));
   between = λ runs slot. (
     λ named. let c = calm.begun slot (named_is_begun (progress_of regs.ring slot) named) in (t.between (sym c.0 ∙ runs) slot).0 (c.1 ∙ named),
@@ -228,50 +225,22 @@ finish_by_task old new output is machine state t = record {
   tells = turned_tells old new state (flushed is.end) machine is.turns is.ends.tells t;
 }
 
--- the card answered a command, as a script can tell it: by one response as it is, by another as it is told
-record FollowsAs (told : Response) (old new : CardState) (array array' : ArrayState) (c : Contents) (answer : Result ℕ Dark) : Type 0 where
-  pub follows : Follows told (plain old c) answer (plain new c)
-  pub stands : StoreStands c new.store array'
-  pub tells : is_some array'.told ≡ is_some array.told
-
-discarded_by : (queueing : Bool) (queue : Queue) (old new : CardState) (array array' : ArrayState) (c : Contents) (answer : Result ℕ Dark) → StoreStands c old.store array
-    → Responds (cond queueing (accepted (record old { queue = queue; phase = None })) (refused old ILLEGAL_COMMAND)) old array new array' answer
-    → FollowsAs (cond queueing (accepted (record (card_of (plain old c)) { queue = queue; phase = None })) (refused (card_of (plain old c)) ILLEGAL_COMMAND))
-    old new array array' c answer
-discarded_by true queue old new array array' c answer stands r = record {
-  follows = (r.0, ap (λ card. plain card c) r.1);
-  stands = subst (λ (card : CardState). StoreStands c card.store array') (sym r.1) (subst (StoreStands c old.store) (sym r.2) stands);
-  tells = ap (λ (array : ArrayState). is_some array.told) r.2;
-}
-discarded_by false queue old new array array' c answer stands r = record {
-  follows = (r.0, ap (λ card. plain card c) r.1);
-  stands = subst (λ (card : CardState). StoreStands c card.store array') (sym r.1) (subst (StoreStands c old.store) (sym r.2) stands);
-  tells = ap (λ (array : ArrayState). is_some array.told) r.2;
-}
-
-discarded_so : (old new : CardState) (array array' : ArrayState) (c : Contents) (answer : Result ℕ Dark) → StoreStands c old.store array
-    → Responds (response_to old (Manage true 0) 0) old array new array' answer
-    → FollowsAs (response_to (card_of (plain old c)) (Manage true 0) all_ready) old new array array' c answer
-unfolding response_to
-discarded_so old new array array' c answer stands r =
-    discarded_by old.csd.command_queue (discarded old.queue None) old new array array' c answer stands r
-
 pub discard_by_task : (old new : Moment) (result : Result (Unit {0}) Halt) (output : Output) → Discards old output new → (state : RawState) → Tells old state
     → Reaches Discard state result output new
 discard_by_task old new result output is state t =
     let c = state.card.contents in
-    let a : FollowsAs (response_to (card_of (plain old.machine.card c)) (Manage true 0) all_ready) old.machine.card new.machine.card old.array new.array c is.card.answer =
-    discarded_so old.machine.card new.machine.card old.array new.array c is.card.answer t.contents is.card.responds in
+    let a : IsAnswered (Manage true 0) old.machine.card new.machine.card old.array new.array c is.card.answer =
+    answered (Manage true 0) 0 old.machine.card new.machine.card old.array new.array c is.card.answer t.contents (λ poll. absurd (false≢true poll)) is.card.responds in
     record {
-      after = record state { card = plain new.machine.card c };
+      after = record state { card = plain new.machine.card a.after };
       makes = record {
         answer = is.card.answer;
-        card = plain new.machine.card c;
-        answers = subst (λ card. Answers (Manage true 0) card is.card.answer (plain new.machine.card c)) (sym t.card) a.follows;
+        card = plain new.machine.card a.after;
+        answers = subst (λ card. Answers (Manage true 0) card is.card.answer (plain new.machine.card a.after)) (sym t.card) a.answers;
         shown = is.card.shown;
         after = refl;
       };
-      tells = tells_card old new state (plain new.machine.card c) is.machine t refl a.stands a.tells;
+      tells = tells_card old new state (plain new.machine.card a.after) is.machine t refl a.stands a.told;
     }
 
 -- the engine
