@@ -114,7 +114,7 @@ module _ (state : RawState) (old new : Moment) (did : Did) (t : Tells old state)
     on = running state.regs r
 
     is_told : (due : Due) → IsDue held state.regs state.memory due → IsDue (places_of state.tasks) state.regs state.memory due
-    is_told due d = due_told held state.regs state.memory state.tasks due rung (f.keeps on) (between on) d
+    is_told due d = due_told held state.regs state.memory state.tasks due (length-remembered old.machine.engine.held state.regs) rung (f.keeps on) (between on) d
 
     ticked : IsDue held state.regs state.memory Tick
         → Does CardMade (behind_of old) (behind_of new) (host_of held state.regs) state.memory new.machine.memory outcome Tick → IsDone state did new
@@ -262,7 +262,7 @@ module _ (state : RawState) (old new : Moment) (did : Did) (t : Tells old state)
           (λ go. between_ended mid left slot (others_advanced state.regs mid slot (between on) refl) c.0)
 
       begins : (word : ℕ) → Crosses (execute_of slot desc) (behind_of old) (behind_of new) (Ok word) → has_error word ≡ false
-          → HasBegun desc.read slot (behind_of old) (behind_of new) state.card.contents
+          → HasBegun desc.read slot word (behind_of old) (behind_of new) state.card.contents
       begins word x error = begun desc.read slot word (behind_of old) (behind_of new) state.card.contents t.script t.contents x error
 
       -- the data phase is open
