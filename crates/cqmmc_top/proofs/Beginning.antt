@@ -17,7 +17,7 @@ use Rattle.cqmmc_top.specs.Raw.{IsBegun}
 some_value : {count : ℕ} (found : Option ℕ) → found ≡ Some count → count ≡ unwrap_or found 0
 some_value found is = ap (λ f. unwrap_or f 0) (sym is)
 
-has_count : (shown was : Option (List Block)) (store : Store) (array : ArrayState) → shown ≡ was → IfSome shown (λ base. Stands (record { base = base; pend = [] }) store array)
+pub has_count : (shown was : Option (List Block)) (store : Store) (array : ArrayState) → shown ≡ was → IfSome shown (λ base. Stands (record { base = base; pend = [] }) store array)
     → IfSome was (λ base. length base ≡ unwrap_or (sectors_of store) 0)
 has_count None None store array same stands = tt
 has_count None (Some base) store array same stands = absurd (cc)
@@ -27,15 +27,16 @@ has_count (Some base) (Some other) store array same stands =
     subst (λ b. length b ≡ unwrap_or (sectors_of store) 0) is (some_value (sectors_of store) stands.sectors)
 
 pub begun : (off begin : Machine) (old new : ArrayState) → off ≡ switched_off off.card.store → begin ≡ switched_on off begin
-    → IfSome (shown_by new) (λ base. Stands (record { base = base; pend = [] }) begin.card.store new) → shown_by new ≡ shown_by old → (ShowsImage old → ShowsImage new)
+    → IfSome (shown_by new) (λ base. Stands (record { base = base; pend = [] }) begin.card.store new) → shown_by new ≡ shown_by old → (ShowsImage old → ShowsImage new) → (ShowsImage new → ShowsImage old)
     → Later old.faults new.faults → Later old.cuts new.cuts → IsBegun old (moment begin new)
-begun off begin old new is on contents shown kept faults cuts = record {
+begun off begin old new is on contents shown kept was_image faults cuts = record {
   store = off.card.store;
   machine = on ∙ ap (λ machine. switched_on machine begin) is;
   contents = contents;
   sectors = has_count (shown_by new) (shown_by old) begin.card.store new shown contents;
   shown = shown;
   kept = kept;
+  was_image = was_image;
   faults = faults;
   cuts = cuts;
 }

@@ -26,7 +26,7 @@ pub data IsScriptRefused (script : Option (List ℕ)) (first first' : Count) (ol
   by_opening : {refusal : Refusal} {ops : List RawOp} → IsScriptOf script ops → OpeningRefused old new refusal → IsScriptRefused script first first' old new refusal
 
 -- A machine that was switched on over an array: registers at reset, and a card set up, of as many sectors as the image, whose
--- store stands for what the image shows, which is what it showed before.
+-- store stands for what the image shows, which is what it showed before. It is an image just where it was one before.
 pub record IsBegun (old : ArrayState) (begin : Moment) : Type 0 where
   pub store : Store
   pub machine : begin.machine ≡ switched_on (switched_off store) begin.machine
@@ -34,6 +34,7 @@ pub record IsBegun (old : ArrayState) (begin : Moment) : Type 0 where
   pub sectors : HasSectors old (sectors begin.machine.card)
   pub shown : shown_by begin.array ≡ shown_by old
   pub kept : ShowsImage old → ShowsImage begin.array
+  pub was_image : ShowsImage begin.array → ShowsImage old
   pub faults : Later old.faults begin.array.faults
   pub cuts : Later old.cuts begin.array.cuts
 
@@ -51,24 +52,28 @@ module _ {K : Type 0} (took : K → List ℕ → K → Type 0) where
     finishes : {old new : Moment} {out out' : K} {result : Result (Unit {0}) Halt} → Finishes took old out result new out' → Plays [] old out result new out'
 
 module _ {K : Type 0} (took : K → List ℕ → K → Type 0) (faults_of : K → Count) where
-  -- a script wasn't begun: by a cause, and the image shows what it showed
+  -- a script wasn't begun: by a cause, and the image shows what it showed, and is one just where it was one
   pub record IsRefusedScript (script : Option (List ℕ)) (first first' : Count) (old new : ArrayState) (out : K) (status : ℕ) (out' : K) : Type 0 where
     pub refusal : Refusal
     pub cause : IsScriptRefused script first first' old new refusal
     pub says : Says took faults_of refusal out status out'
     pub shown : shown_by new ≡ shown_by old
     pub kept : ShowsImage old → ShowsImage new
+    pub was_image : ShowsImage new → ShowsImage old
 
-  -- the sink failed within the first line, and the image shows what it showed
+  -- the sink failed within the first line, which tells as many sectors as the image has; the image shows what it showed, and
+  -- is one just where it was one
   pub record IsUntold (script : Option (List ℕ)) (old new : ArrayState) (out : K) (status : ℕ) (out' : K) : Type 0 where
     pub ops : List RawOp
     pub means : IsScriptOf script ops
     pub is : status ≡ 5
     pub sectors : ℕ
+    pub has : HasSectors old sectors
     pub part : TookPart took out (card_text sectors) out'
     pub rose : Rose (faults_of out) (faults_of out')
     pub shown : shown_by new ≡ shown_by old
     pub kept : ShowsImage old → ShowsImage new
+    pub was_image : ShowsImage new → ShowsImage old
 
   -- The operations were carried out one after the other, from a machine switched on. The status says how that ended.
   pub record IsPlayed (script : Option (List ℕ)) (old new : ArrayState) (out : K) (status : ℕ) (out' : K) : Type 0 where

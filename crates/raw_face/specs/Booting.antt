@@ -1,5 +1,5 @@
 -- The machine switched on.
-use Rattle.std.specs.Prelude.{◌≡◌, ◌⊎◌, ℕ, ◌+◌, ◌≤◌, true, List, Some, Result, Ok, Err, IsErrOf}
+use Rattle.std.specs.Prelude.{◌≡◌, ◌⊎◌, ℕ, ◌+◌, ◌≤◌, true, List, Some, Result, Ok, Err, IsErrOf, IsOk, is_some}
 use Rattle.array_edge.specs.Array.{ArrayState}
 use Rattle.card_core.specs.Card.{CardState, idle_card, sectors, set_up}
 use Rattle.cq_engine.specs.Outcome.{holds_nothing}
@@ -27,8 +27,14 @@ Boots took old card (Ok done) new = took old (item_text (Card (sectors card) 31 
 Boots took old card (Err SinkFailed) new = Prints took old (item_text (Card (sectors card) 31 (Some 64))) (Err SinkFailed) new
 Boots took old card (Err _) new = new ≡ old
 
+-- the machine is on: all went well, or the sink failed within the line of the card
+abbrev pub IsOn : Result (Unit {0}) Halt → Type 0
+IsOn result = IsOk result ⊎ IsErrOf result SinkFailed
+
+-- An array that tells its pages goes on telling them, and one that doesn't tells none.
 -- Why the card stays off, with what rose since: its array failed, eight openings in a row were cut, or its pages are no image.
 pub record BootEnds (old new : ArrayState) (result : Result (Unit {0}) Halt) : Type 0 where
+  pub tells : is_some new.told ≡ is_some old.told
   pub faults : Later old.faults new.faults
   pub cuts : Later old.cuts new.cuts
   pub fault : IsErrOf result OpenFault → Rose old.faults new.faults

@@ -62,7 +62,7 @@ impl Model for Raw {
 }
 
 impl Raw {
-    ghost use Rattle.raw_face.specs.Booting.{BootEnds, Boots, switched_on};
+    ghost use Rattle.raw_face.specs.Booting.{BootEnds, Boots, IsOn, switched_on};
     ghost use Rattle.raw_machine.specs.Machine.{Stands, moment, switched_off};
     ghost use Rattle.raw_face.specs.Operation.{Does, Finishes};
     ghost use Rattle.raw_face.specs.Output.{IsSinkCause};
@@ -91,20 +91,22 @@ impl Raw {
 
     /// Switches the machine on: registers at their reset values, no task, and the card set up on the image of the array.
     /// Prints the line of the card. An opening that is cut begins again, at most 8 openings in a row. Where the card stays
-    /// off nothing is printed.
+    /// off nothing is printed, and no image is open. Where the sink fails the machine is on.
     ///
     /// # Errors
     ///
     /// `OpenFault` where the array failed, `PowerGone` where 8 openings in a row were cut, `BadImage` where the pages are no
     /// image, and `SinkFailed` where the sink failed.
     pub fn boot<A: Array, K: Sink>(&mut self, array: &mut A, out: &mut K) -> Result<(), Halt>
-        ensures on { OnOk result (self.new ≡ switched_on self.old self.new) }
-        ensures stands { OnOk result (Stands self.new (A.state array.new)) }
-        ensures empty { OnOk result (self.new.card.store.cache ≡ record self.old.card.store.cache { lines = []; last = 0 }) }
-        ensures contents { OnOk result (IfSome (shown_by (A.state array.new)) (λ shown. StoreStands (record { base = shown; pend = [] }) self.new.card.store (A.state array.new))) }
+        ensures on { IsOn result → self.new ≡ switched_on self.old self.new }
+        ensures stands { IsOn result → Stands self.new (A.state array.new) }
+        ensures empty { IsOn result → self.new.card.store.cache ≡ record self.old.card.store.cache { lines = []; last = 0 } }
+        ensures contents { IsOn result → IfSome (shown_by (A.state array.new)) (λ shown. StoreStands (record { base = shown; pend = [] }) self.new.card.store (A.state array.new)) }
+        ensures closed { IsOn result ⊎ (self.new.card.store.known ≡ None) }
         ensures printed { Boots K.took out.old self.new.card result out.new }
         ensures shown { shown_by (A.state array.new) ≡ shown_by (A.state array.old) }
         ensures image { ShowsImage (A.state array.old) → ShowsImage (A.state array.new) }
+        ensures was_image { ShowsImage (A.state array.new) → ShowsImage (A.state array.old) }
         ensures ends { BootEnds (A.state array.old) (A.state array.new) result }
         ensures sink { IsSinkCause (K.faults out.old) (K.faults out.new) result }
     {
@@ -276,8 +278,10 @@ fn open<A: Array>(card: &mut Card, array: &mut A) -> Result<(), Halt>
     ensures ok { OnOk result (card.new ≡ record (idle_card card.old.depth card.old.lines card.old.through card.new.store) { csd = set_up card.old (sectors card.new) }) }
     ensures empty { OnOk result (card.new.store.cache ≡ record card.old.store.cache { lines = []; last = 0 }) }
     ensures contents { OnOk result (IfSome (shown_by (A.state array.new)) (λ shown. StoreStands (record { base = shown; pend = [] }) card.new.store (A.state array.new))) }
+    ensures closed { OnErr result (card.new.store.known ≡ None) }
     ensures shown { shown_by (A.state array.new) ≡ shown_by (A.state array.old) }
     ensures image { ShowsImage (A.state array.old) → ShowsImage (A.state array.new) }
+    ensures was_image { ShowsImage (A.state array.new) → ShowsImage (A.state array.old) }
     ensures ends { BootEnds (A.state array.old) (A.state array.new) result }
     ensures sink { IsErrOf result SinkFailed → ⊥ }
 {

@@ -1,8 +1,9 @@
 use Rattle.std.proofs.Common.{refl, inl, inr, subst, ap, Err}
+use Rattle.card_core.specs.Card.{sectors}
 use Rattle.cqmmc_top.specs.Refusal.{Says}
 use Rattle.cqmmc_top.specs.declared.refusal.Refusal.{Refusal}
 use Rattle.cqmmc_top.specs.declared.refusal.Refusal.TheVariants.{BadImage, ArrayFault, NoPower}
-use Rattle.cqmmc_top.proofs.Beginning.{begun}
+use Rattle.cqmmc_top.proofs.Beginning.{begun, has_count}
 use Rattle.cqmmc_top.proofs.Playing.{cause_then, booted}
 use Rattle.cqmmc_top.specs.Raw.{by_opening}
 use Rattle.cqmmc_top.proofs.raw.begin.Goals as goal
@@ -12,7 +13,7 @@ returns-in-Ok g c = λ text before after means. inr (inr (record {
   ops = c.args.script.now.ops;
   means = means;
   begin = _;
-  begun = begun c.args.script.now.raw c.boot.new.self _ _ c.requires.off c.in-Ok.ensures.on c.in-Ok.ensures.contents c.in-Ok.ensures.shown c.in-Ok.ensures.image c.in-Ok.ensures.ends.faults c.in-Ok.ensures.ends.cuts;
+  begun = begun c.args.script.now.raw c.boot.new.self _ _ c.requires.off (c.in-Ok.ensures.on (inl refl)) (c.in-Ok.ensures.contents (inl refl)) c.in-Ok.ensures.shown c.in-Ok.ensures.image c.in-Ok.ensures.was_image c.in-Ok.ensures.ends.faults c.in-Ok.ensures.ends.cuts;
   middle = c.boot.new.out;
   card = c.in-Ok.ensures.printed;
   end = c.play.new.raw;
@@ -27,11 +28,13 @@ returns-in-Err-SinkFailed g c = λ text before after means. inr (inl (record {
   ops = c.args.script.now.ops;
   means = means;
   is = refl;
-  sectors = _;
+  sectors = sectors c.boot.new.self.card;
+  has = has_count _ _ c.boot.new.self.card.store _ c.in-Err-SinkFailed.ensures.shown (c.in-Err-SinkFailed.ensures.contents (inr (ap Err c.in-Err-SinkFailed.field-0-is)));
   part = rw c.in-Err-SinkFailed.field-0-is at c.in-Err-SinkFailed.ensures.printed;
   rose = c.in-Err-SinkFailed.ensures.sink.failed (ap Err c.in-Err-SinkFailed.field-0-is);
   shown = c.in-Err-SinkFailed.ensures.shown;
   kept = c.in-Err-SinkFailed.ensures.image;
+  was_image = c.in-Err-SinkFailed.ensures.was_image;
 }))
 
 pub returns-in-Err-BadImage : goal.returns-in-Err-BadImage
@@ -41,6 +44,7 @@ returns-in-Err-BadImage g c = λ text before after means. inl (record {
   says = subst (λ out. Says g.K.Sink.took g.K.Sink.faults BadImage out c.refuse.result c.refuse.new.out) (rw c.in-Err-BadImage.field-0-is at c.in-Err-BadImage.ensures.printed) (record { later = c.refuse.ensures.later; said = c.refuse.ensures.said });
   shown = c.in-Err-BadImage.ensures.shown;
   kept = c.in-Err-BadImage.ensures.image;
+  was_image = c.in-Err-BadImage.ensures.was_image;
 })
 
 pub returns-in-Err-OpenFault : goal.returns-in-Err-OpenFault
@@ -50,6 +54,7 @@ returns-in-Err-OpenFault g c = λ text before after means. inl (record {
   says = subst (λ out. Says g.K.Sink.took g.K.Sink.faults ArrayFault out c.refuse-in-Err-OpenFault.result c.refuse-in-Err-OpenFault.new.out) (rw c.in-Err-OpenFault.field-0-is at c.in-Err-OpenFault.ensures.printed) (record { later = c.refuse-in-Err-OpenFault.ensures.later; said = c.refuse-in-Err-OpenFault.ensures.said });
   shown = c.in-Err-OpenFault.ensures.shown;
   kept = c.in-Err-OpenFault.ensures.image;
+  was_image = c.in-Err-OpenFault.ensures.was_image;
 })
 
 pub returns-in-Err-PowerGone : goal.returns-in-Err-PowerGone
@@ -59,4 +64,5 @@ returns-in-Err-PowerGone g c = λ text before after means. inl (record {
   says = subst (λ out. Says g.K.Sink.took g.K.Sink.faults NoPower out c.refuse-in-Err-PowerGone.result c.refuse-in-Err-PowerGone.new.out) (rw c.in-Err-PowerGone.field-0-is at c.in-Err-PowerGone.ensures.printed) (record { later = c.refuse-in-Err-PowerGone.ensures.later; said = c.refuse-in-Err-PowerGone.ensures.said });
   shown = c.in-Err-PowerGone.ensures.shown;
   kept = c.in-Err-PowerGone.ensures.image;
+  was_image = c.in-Err-PowerGone.ensures.was_image;
 })

@@ -9,4 +9,5 @@ returns-in-Err g c = inl (record {
   says = record { later = c.refuse.ensures.later; said = c.refuse.ensures.said };
   shown = refl;
   kept = λ is. is;
+  was_image = λ is. is;
 })
