@@ -1,9 +1,10 @@
 -- A write of a register leaves what the engine has to hold: no slot begins, and a stop ends only where all tasks are cleared.
-use Rattle.std.proofs.Common.{◌≡◌, ◌==◌, ◌&&◌, ℕ, Bool, true, false, cond, refl, sym, ◌∙◌, ap, subst}
+use Rattle.std.proofs.Common.{◌≡◌, ◌==◌, ◌&&◌, ◌++◌, map, ℕ, Bool, true, false, cond, refl, sym, ◌∙◌, ap, subst}
 use Rattle.std.specs.Prelude.{List, [], ◌∷◌, not, Option, Some, None, IfSome}
-use Rattle.std.specs.List.{find}
+use Rattle.std.specs.List.{All, filter, find}
 use Rattle.std.specs.Option.{IsSomeAnd, option_map_or}
 use Rattle.std.proofs.lemmas.Bool.{false≢true, eqb-true}
+use Rattle.std.proofs.lemmas.List.Elements.{All-append, All-filter, All-map, All-nil}
 use Rattle.std.specs.Int.RustNames.{bit_and}
 use Rattle.cq_regs.specs.declared.slots.Progress.{Progress}
 use Rattle.cq_regs.specs.declared.slots.Progress.TheVariants.{Idle, Rung}
@@ -14,7 +15,7 @@ use Rattle.cq_regs.specs.declared.table.Access.{Access}
 use Rattle.cq_regs.specs.declared.table.Access.TheVariants.{ReadOnly, Stored, OneClears, Acts}
 use Rattle.cq_regs.specs.declared.table.Row.{Row}
 use Rattle.cq_regs.specs.State.{Registers}
-use Rattle.cq_regs.specs.Slots.{has_bit, is_rung, progress_of, rung, without_slots, Moves}
+use Rattle.cq_regs.specs.Slots.{first_slots, has_bit, is_rung, newly_rung, progress_of, rings, rung, without_slots, Moves}
 use Rattle.cq_regs.specs.Table.{row_at}
 use Rattle.cq_regs.specs.Effects.{acted, cleared, controlled, halt_complete, raised, stored, task_cleared, tasks_cleared, value_of, without_bits, written, written_by, RingsSlots}
 use Rattle.cq_schedule.specs.Held.{held_at}
@@ -22,11 +23,16 @@ use Rattle.cq_schedule.specs.Holding.{is_begun}
 use Rattle.cq_engine.specs.Outcome.{Holding}
 use Rattle.cq_engine.specs.Holds.{Holds}
 
+-- no slot in the list is idle
+abbrev pub AreRung : List Ringed → Type 0
+AreRung ring = All (λ r. is_rung r.progress ≡ true) ring
+
 -- a slot that is begun is as far as it was, and no stop begins; one that ends leaves no slot begun
 pub record IsCalm (old new : Registers) : Type 0 where
   pub begun : (slot : ℕ) → is_begun (progress_of new.ring slot) ≡ true
       → (new.stopped ≡ old.stopped) × (progress_of old.ring slot ≡ progress_of new.ring slot)
   pub stop : new.stopped ≡ true → old.stopped ≡ true
+  pub rung : AreRung old.ring → AreRung new.ring
 
 holds_calm : (engine : Holding) (old new : Registers) → IsCalm old new → Holds engine old → Holds engine new
 holds_calm engine old new calm holds = record {
@@ -42,6 +48,7 @@ calm_same : (old new : Registers) → new.ring ≡ old.ring → new.stopped ≡ 
 calm_same old new ring stopped = record {
   begun = λ slot begun. (stopped, sym (ap (λ r. progress_of r slot) ring));
   stop = λ s. sym stopped ∙ s;
+  rung = λ h. subst AreRung (sym ring) h;
 }
 
 calm_stored : (regs : Registers) (register : Register) (word : ℕ) → IsCalm regs (stored regs register word)
@@ -76,6 +83,7 @@ calm_cleared : (regs : Registers) → IsCalm regs (cleared regs)
 calm_cleared regs = record {
   begun = λ slot begun. absurd (false≢true begun);
   stop = λ s. absurd (false≢true s);
+  rung = λ h. All-nil (λ r. is_rung r.progress ≡ true);
 }
 
 calm_controlled : (regs : Registers) (value : ℕ) → IsCalm regs (controlled regs value)
@@ -92,6 +100,10 @@ unrung : (b : Bool) (p q : Progress) → q ≡ cond b Rung p → is_begun q ≡ 
 unrung true p q e begun = let B : Progress → Type 0 = λ v. is_begun v ≡ true in absurd (false≢true (subst B e begun))
 unrung false p q e begun = sym e
 
+are_rung_more : (ring : List Ringed) (slots : List ℕ) → AreRung ring → AreRung (ring ++ map newly_rung slots)
+are_rung_more ring slots h =
+    All-append (λ r. is_rung r.progress ≡ true) ring (map newly_rung slots) h (All-map (λ r. is_rung r.progress ≡ true) newly_rung slots (λ k d below. refl))
+
 calm_belled_if : (regs : Registers) (value : ℕ) (enabled : Bool)
     → (enabled ≡ true → Moves regs.ring (cond enabled (record regs { ring = rung regs.ring value }) regs).ring
     (λ slot progress. cond (has_bit value slot && not (is_rung progress)) Rung progress))
@@ -104,6 +116,7 @@ calm_belled_if regs value true moves = record {
         (progress_of (rung regs.ring value) slot) (moves refl slot) begun,
   );
   stop = λ s. s;
+  rung = are_rung_more regs.ring (filter (rings regs.ring value) (first_slots 32));
 }
 
 -- a slot that stays is as far as it was
@@ -156,6 +169,7 @@ calm_task_cleared regs value =
             (without_slots-progress regs.ring value slot) begun,
       );
       stop = λ s. s;
+      rung = All-filter (λ r. not (has_bit value r.slot)) (λ r. is_rung r.progress ≡ true) regs.ring;
     }) (calm_same regs regs refl refl)
 
 calm_acted : (regs : Registers) (register : Register) (value : ℕ) → RingsSlots regs register value (acted regs register value)
@@ -190,18 +204,20 @@ calm_by regs (Stored mask) register value moves = calm_stored regs register (bit
 calm_by regs OneClears register value moves = calm_stored regs register (without_bits (value_of regs register) value)
 calm_by regs Acts register value moves = calm_acted regs register value (moves refl)
 
-holds_at : (engine : Holding) (old : Registers) (place : Option Row) (value : ℕ)
+calm_at : (old : Registers) (place : Option Row) (value : ℕ)
     → IfSome place (λ row. row.access ≡ Acts → RingsSlots old row.register value (option_map_or (λ row. written old row value) place old))
-    → Holds engine old → Holds engine (option_map_or (λ row. written old row value) place old)
-holds_at engine old None value moves holds = holds
-holds_at engine old (Some row) value moves holds =
-    holds_calm engine old (written old row value) (calm_by old row.access row.register value moves) holds
+    → IsCalm old (option_map_or (λ row. written old row value) place old)
+calm_at old None value moves = calm_same old old refl refl
+calm_at old (Some row) value moves = calm_by old row.access row.register value moves
 
 -- by what `write` of the registers ensures
+pub calm_written : (old new : Registers) (offset value : ℕ) → new ≡ option_map_or (λ row. written old row value) (row_at offset) old
+    → IfSome (row_at offset) (λ row. row.access ≡ Acts → RingsSlots old row.register value new) → IsCalm old new
+calm_written old new offset value after moves =
+    let Q : Registers → Type 0 = λ regs. IfSome (row_at offset) (λ row. row.access ≡ Acts → RingsSlots old row.register value regs) in
+    subst (IsCalm old) (sym after) (calm_at old (row_at offset) value (subst Q after moves))
+
 pub holds_written : (engine : Holding) (old new : Registers) (offset value : ℕ)
     → new ≡ option_map_or (λ row. written old row value) (row_at offset) old
     → IfSome (row_at offset) (λ row. row.access ≡ Acts → RingsSlots old row.register value new) → Holds engine old → Holds engine new
-holds_written engine old new offset value after moves holds =
-    let P : Registers → Type 0 = λ regs. Holds engine regs in
-    let Q : Registers → Type 0 = λ regs. IfSome (row_at offset) (λ row. row.access ≡ Acts → RingsSlots old row.register value regs) in
-    subst P (sym after) (holds_at engine old (row_at offset) value (subst Q after moves) holds)
+holds_written engine old new offset value after moves holds = holds_calm engine old new (calm_written old new offset value after moves) holds

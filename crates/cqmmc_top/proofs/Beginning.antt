@@ -9,7 +9,7 @@ use Rattle.card_core.specs.Card.{sectors}
 use Rattle.card_store.specs.Store.{Stands, Store, sectors_of}
 use Rattle.intent_store.specs.Intent.{ShowsImage, shown_by}
 use Rattle.raw_face.specs.Booting.{switched_on}
-use Rattle.raw_face.specs.Machine.{Machine, Moment, moment, switched_off}
+use Rattle.raw_machine.specs.Machine.{Machine, Moment, moment, switched_off}
 use Rattle.cqmmc_top.specs.Opened.{HasSectors}
 use Rattle.cqmmc_top.specs.Print.{HasCause}
 use Rattle.cqmmc_top.specs.Raw.{IsBegun}

@@ -10,6 +10,7 @@ pub mod Ranges
 pub mod Reading
 pub mod Running
 pub mod ScriptRead
+pub mod ScriptTold
 pub mod Serving
 pub mod TextsRead
 pub mod Writing

@@ -17,10 +17,10 @@ use Rattle.intent_store.specs.declared.ends.StoreEnd.{StoreEnd}
 use Rattle.intent_store.specs.declared.ends.StoreEnd.TheVariants.{Flash, PowerLost}
 use Rattle.raw_face.specs.Access.{write_output}
 use Rattle.card_core.specs.declared.ends.Dark.{Dark as NoPower}
-use Rattle.raw_face.specs.Machine.{Moment}
+use Rattle.raw_machine.specs.Machine.{Moment}
 use Rattle.raw_face.specs.Operation.{Does, Finishes, Makes}
 use Rattle.raw_face.specs.Output.{HasCauses, IsSinkCause, Output, Shows, halt_of, nothing, one}
-use Rattle.raw_face.specs.Running.{end_after}
+use Rattle.raw_machine.specs.Running.{end_after}
 use Rattle.raw_face.specs.Sector.{HasShown, IsOutside, discard_output, flush_output, sector_output}
 use Rattle.raw_lines.specs.declared.raw_line.RawLine.TheVariants.{NoRegister}
 use Rattle.raw_text.specs.declared.op.RawOp.{RawOp}

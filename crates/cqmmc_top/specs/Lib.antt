@@ -5,6 +5,7 @@ pub mod Made
 pub mod Moves
 pub mod Opened
 pub mod Print
+pub mod RawByTask
 pub mod Raw
 pub mod Refusal
 pub mod Serial

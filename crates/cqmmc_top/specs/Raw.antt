@@ -9,12 +9,13 @@ use Rattle.card_store.specs.Store.{Stands as StoreStands, Store}
 use Rattle.intent_store.specs.Intent.{ShowsImage, shown_by}
 use Rattle.io_edge.specs.Sink.{TookPart}
 use Rattle.raw_face.specs.Booting.{switched_on}
-use Rattle.raw_face.specs.Machine.{Machine, Moment, moment, switched_off}
+use Rattle.raw_machine.specs.Machine.{Machine, Moment, moment, switched_off}
 use Rattle.raw_face.specs.Operation.{Does, Finishes}
 use Rattle.raw_text.specs.declared.op.RawOp.{RawOp}
 use Rattle.trace_text.specs.Trace.{item_text}
 use Rattle.cqmmc_top.specs.Opened.{HasSectors, OpeningRefused}
 use Rattle.cqmmc_top.specs.Print.{HasCause, run_status}
+use Rattle.cqmmc_top.specs.RawByTask.{IsTold}
 use Rattle.cqmmc_top.specs.Refusal.{Says}
 use Rattle.cqmmc_top.specs.Texts.{IsScriptOf, ScriptRefused}
 use Rattle.cqmmc_top.specs.declared.refusal.Refusal.{Refusal}
@@ -75,7 +76,8 @@ module _ {K : Type 0} (took : K → List ℕ → K → Type 0) (faults_of : K �
     pub kept : ShowsImage old → ShowsImage new
     pub was_image : ShowsImage new → ShowsImage old
 
-  -- The operations were carried out one after the other, from a machine switched on. The status says how that ended.
+  -- The operations were carried out one after the other, from a machine switched on. The status says how that ended. Where the array tells
+  -- its pages, the same is told task by task, over the contents that it showed.
   pub record IsPlayed (script : Option (List ℕ)) (old new : ArrayState) (out : K) (status : ℕ) (out' : K) : Type 0 where
     pub ops : List RawOp
     pub means : IsScriptOf script ops
@@ -86,6 +88,7 @@ module _ {K : Type 0} (took : K → List ℕ → K → Type 0) (faults_of : K �
     pub end : Machine
     pub result : Result (Unit {0}) Halt
     pub plays : Plays took ops begin middle result (moment end new) out'
+    pub told : IfSome (shown_by old) (λ base. IsTold took base ops middle result (moment end new) out')
     pub is : status ≡ run_status result
     pub cause : HasCause (faults_of out) (faults_of out') old new result
 

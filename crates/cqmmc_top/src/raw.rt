@@ -1,7 +1,7 @@
 // A raw script, from its text to its last line.
 ghost use Rattle.std.specs.Prelude.{◌≡◌, All, IfErr, IfOk, List, Option, ℕ};
 ghost use Rattle.storage_model.specs.Count.{Count};
-ghost use Rattle.raw_face.specs.Machine.{Stands, moment, switched_off};
+ghost use Rattle.raw_machine.specs.Machine.{Stands, moment, switched_off};
 ghost use Rattle.raw_text.specs.Raw.{IsOp};
 ghost use Rattle.cqmmc_top.specs.Print.{HasCause, run_status};
 ghost use Rattle.cqmmc_top.specs.Raw.{Plays, RawAnswers};

@@ -1,7 +1,5 @@
-pub mod Falling
+pub mod ByTask
 pub mod Filling
-pub mod Mapped
 pub mod Printing
 pub mod Runs
 pub mod Standing
-pub mod WorkLeft

@@ -25,10 +25,12 @@ use Rattle.storage_model.specs.declared.ends.Halt.{Halt}
 use Rattle.storage_model.specs.declared.ends.Halt.TheVariants.{SinkFailed, OpenFault, PowerGone, BadImage}
 use Rattle.storage_model.specs.declared.trace.End.{End}
 use Rattle.storage_model.specs.declared.trace.End.TheVariants.{Fault, Dead}
-use Rattle.raw_face.specs.Machine.{Moment, behind_of}
+use Rattle.raw_machine.specs.Machine.{Moment, Stands, behind_of}
 use Rattle.raw_face.specs.Operation.{Does}
-use Rattle.raw_face.specs.Output.{HasCauses, Output, Shows, halt_of, lines_text, output_text, shown, tells_fault}
-use Rattle.raw_face.specs.Running.{GoesOn, Happens, Step, end_after, goes_on, lines_of, output_after, steps_lines}
+use Rattle.raw_face.specs.Output.{HasCauses, Output, Shows, halt_of, lines_text, output_text, nothing, shown, tells_fault}
+use Rattle.raw_face.specs.Running.{Runs, output_after}
+use Rattle.raw_machine.specs.Running.{GoesOn, Happens, Step, end_after, goes_on, lines_of, steps_lines}
+use Rattle.raw_face.proofs.ByTask.{go_by_task}
 use Rattle.raw_face.proofs.Printing.{after, shown_after}
 
 pub later_same : (count : Count) → Later count count
@@ -208,6 +210,11 @@ lines_more steps did new =
 abbrev pub failed : Halt → Result (Unit {0}) Halt
 failed halt = Err halt
 
+-- the sink fails only where something is printed
+pub printed_after : (did : Did) (output : Output) (result : Result (Unit {0}) Halt) → output ≡ output_after did → (result ≡ Err SinkFailed → output ≢ nothing)
+    → result ≡ Err SinkFailed → output_after did ≢ nothing
+printed_after did output result is printed fails = λ none. printed fails (is ∙ none)
+
 abbrev with_lines : List RawLine → Option End → Output
 with_lines lines end = record { lines = lines; end = end }
 
@@ -263,13 +270,16 @@ module _ {K : Type 0} (took : K → List ℕ → K → Type 0) where
   -- the last event
   pub run_over : Joins took → (old between new : Moment) (sink mid sink' : K) (did : Did) (result : Result (Unit {0}) Halt) → HasRun old sink between mid
       → Follows between mid did result new sink' → (result ≢ Err SinkFailed → goes_on did new.machine.regs ≡ false)
-      → Does took Go old sink result new sink'
-  run_over both old between new sink mid sink' did result run f over = record {
+      → (result ≡ Err SinkFailed → output_after did ≢ nothing) → Stands old.machine old.array → Does took Go old sink result new sink'
+  run_over both old between new sink mid sink' did result run f over printed stands = record {
     output = after (steps_lines run.steps) (output_after did);
-    makes = record { steps = run.steps; between = between; last = did; before = run.goes; event = f.event; over = over; shown = refl };
+    makes = runs;
+    by_task = go_by_task old new result (after (steps_lines run.steps) (output_after did)) stands runs;
     shows = shown_after took both sink mid sink' (steps_lines run.steps) (output_after did) result run.taken f.shows;
     causes = causes_both old.array between.array new.array (steps_lines run.steps) (output_after did) run.quiet run.causes f.causes;
-  }
+  } where
+    runs : Runs old result (after (steps_lines run.steps) (output_after did)) new
+    runs = record { steps = run.steps; between = between; last = did; before = run.goes; event = f.event; over = over; printed = printed; shown = refl }
 
   -- where the script ends with the last event
   pub over_by : (sink sink' : K) (did : Did) (regs : Registers) (halt : Halt) → Shows took sink (output_after did) (Err halt) sink'

@@ -9,7 +9,7 @@ use Rattle.piece_data.specs.Laws.{HasSameSpace}
 use Rattle.storage_model.specs.declared.trace.End.{End}
 use Rattle.storage_model.specs.declared.trace.End.TheVariants.{Dead, Fault}
 use Rattle.raw_face.specs.Access.{IsPokedIn}
-use Rattle.raw_face.specs.Machine.{Machine, Stands}
+use Rattle.raw_machine.specs.Machine.{Machine, Stands}
 use Rattle.raw_face.specs.Operation.{with_memory}
 use Rattle.raw_face.specs.Output.{HasCauses, IsQuiet, Output}
 use Rattle.raw_face.proofs.Runs.{later_same}

@@ -5,7 +5,7 @@ use Rattle.card_core.specs.Card.{CardState, idle_card, sectors, set_up}
 use Rattle.cq_engine.specs.Outcome.{holds_nothing}
 use Rattle.cq_regs.specs.Effects.{at_reset}
 use Rattle.intent_store.specs.Intent.{IsNoImage}
-use Rattle.raw_face.specs.Machine.{Machine}
+use Rattle.raw_machine.specs.Machine.{Machine}
 use Rattle.raw_face.specs.Output.{Prints}
 use Rattle.storage_model.specs.Count.{Later, Rose}
 use Rattle.storage_model.specs.declared.ends.Halt.{Halt}

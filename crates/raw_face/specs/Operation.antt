@@ -6,8 +6,11 @@ use Rattle.cq_regs.specs.Effects.{written}
 use Rattle.cq_regs.specs.State.{Registers}
 use Rattle.cq_regs.specs.Table.{row_at}
 use Rattle.host_mem.specs.Memory.{Memory}
+use Rattle.raw_face.specs.ByTask.{Reaches, ReachesEnd}
 use Rattle.raw_face.specs.Access.{IsPeekedIn, IsPokedIn, read_output, write_output}
-use Rattle.raw_face.specs.Machine.{Machine, Moment, moment}
+use Rattle.raw_machine.specs.Machine.{Machine, Moment, moment}
+use Rattle.raw_machine.specs.State.{RawState}
+use Rattle.raw_machine.specs.Telling.{Tells}
 use Rattle.raw_face.specs.Output.{HasCauses, Output, Shows}
 use Rattle.raw_face.specs.Running.{Runs}
 use Rattle.raw_face.specs.Sector.{HasFlushed, IsDiscarded, IsShown}
@@ -65,19 +68,21 @@ Makes Go old result output new = Runs old result output new
 Makes (Show sector) old result output new = ShowsSector sector old output new
 Makes Discard old result output new = Discards old output new
 
--- an operation was carried out, and its output printed
+-- an operation was carried out, and its output printed; where the machine was in a state that a script can tell, it is so again
 pub record Does {K : Type 0} (took : K → List ℕ → K → Type 0) (op : RawOp) (old : Moment) (sink : K) (result : Result (Unit {0}) Halt) (new : Moment) (sink' : K)
     : Type 0 where
   pub output : Output
   pub makes : Makes op old result output new
+  pub by_task : (state : RawState) → Tells old state → Reaches op state result output new
   pub shows : Shows took sink output result sink'
   pub causes : HasCauses old.array new.array output
 
--- the card's cache flushed, and the end of the script printed
+-- the card's cache flushed, and the end of the script printed; where the machine was in a state that a script can tell, it is so again
 pub record Finishes {K : Type 0} (took : K → List ℕ → K → Type 0) (old : Moment) (sink : K) (result : Result (Unit {0}) Halt) (new : Moment) (sink' : K)
     : Type 0 where
   pub output : Output
   pub card : HasFlushed old.machine.card old.array output new.machine.card new.array
   pub machine : new.machine ≡ with_card old.machine new.machine.card
+  pub by_task : (state : RawState) → Tells old state → ReachesEnd state output new
   pub shows : Shows took sink output result sink'
   pub causes : HasCauses old.array new.array output

@@ -1,10 +1,11 @@
 // Accesses of the host's memory and of the registers.
-ghost use Rattle.std.specs.Prelude.{◌≡◌, ◌⊎◌, ◌≤◌, ◌<◌, ◌+◌, ◌^◌, length, replicate, OnOk, OnErr, IsOk, ◌↔◌};
+ghost use Rattle.std.specs.Prelude.{◌≡◌, ◌⊎◌, ◌≤◌, ◌<◌, ◌+◌, ◌^◌, length, replicate, IfSome, OnOk, OnErr, IsOk, ◌↔◌};
 ghost use Rattle.host_mem.specs.Memory.{HasRange, bytes_of, with_bytes};
 ghost use Rattle.cq_engine.specs.Holds.{Holds};
 ghost use Rattle.cq_engine.specs.Outcome.{Holding};
-ghost use Rattle.cq_regs.specs.Effects.{written};
+ghost use Rattle.cq_regs.specs.Effects.{RingsSlots, written};
 ghost use Rattle.cq_regs.specs.Table.{row_at};
+ghost use Rattle.cq_regs.specs.declared.table.Access.TheVariants.{Acts};
 ghost use Rattle.std.specs.Option.{option_map_or};
 ghost use Rattle.raw_face.specs.Access.{IsPeekedIn, IsPokedIn, read_output, write_output};
 ghost use Rattle.raw_face.specs.Output.{IsQuiet};
@@ -95,6 +96,7 @@ fn peek_into(mem: &HostMem, at: u64, room: &mut [u8]) -> Reply
 pub fn write(regs: &mut Regs, reg: u8, value: u32) -> Reply
     ensures holds { (engine : Holding) → Holds engine regs.old → Holds engine regs.new }
     ensures after { regs.new ≡ option_map_or (λ row. written regs.old row value) (row_at reg) regs.old }
+    ensures rings { IfSome (row_at reg) (λ row. row.access ≡ Acts → RingsSlots regs.old row.register value regs.new) }
     ensures quiet { IsQuiet (output_of result) }
     ensures shown { output_of result ≡ write_output reg }
 {

@@ -6,11 +6,11 @@ ghost use Rattle.cq_schedule.specs.Order.{first_at};
 ghost use Rattle.cq_engine.specs.Ends.{EventEnds};
 ghost use Rattle.cq_engine.specs.Outcome.{stop_of};
 ghost use Rattle.card_link.specs.Behind.{link_state};
-ghost use Rattle.raw_face.specs.Machine.{Stands, behind_of, moment};
+ghost use Rattle.raw_machine.specs.Machine.{Stands, behind_of, moment};
 ghost use Rattle.raw_face.specs.Operation.{Does};
 ghost use Rattle.raw_face.specs.Output.{HasCauses, IsSinkCause};
 ghost use Rattle.raw_face.specs.Reply.{output_of};
-ghost use Rattle.raw_face.specs.Running.{Happens, IsBelow, goes_on, output_after};
+ghost use Rattle.raw_face.specs.Running.{output_after};
 ghost use Rattle.raw_text.specs.declared.op.RawOp.TheVariants.{Go};
 ghost use Rattle.cq_engine.specs.declared.did.Did.TheVariants.{Sent as SentCommand, Stopped as StoppedFor};
 
@@ -69,57 +69,5 @@ fn reply_of_stop(cause: Cause) -> Reply
         }),
         Cause::Dark => Reply::ending(End::Dead),
         Cause::Bus { .. } => Reply::none(),
-    }
-}
-
-/// Whether the engine goes on after an event.
-pub fn goes_on(did: &Did, regs: &Regs) -> bool
-    ensures value { result ≡ goes_on did.now regs.now }
-    ensures below { IsBelow did.now regs.now }
-{
-    match did {
-        Did::Idle => false,
-        Did::Stopped(_) => false,
-        Did::Sent(command) => goes_on_after(command, regs),
-        Did::Direct { .. } => true,
-        Did::Moved { .. } => true,
-        Did::Finished { .. } => true,
-        Did::Dropped { .. } => true,
-    }
-}
-
-// Whether it goes on after a command: after a poll only where that named a task.
-fn goes_on_after(command: &Command, regs: &Regs) -> bool
-    ensures value { result ≡ goes_on (SentCommand command.now) regs.now }
-    ensures below { IsBelow (SentCommand command.now) regs.now }
-{
-    match command {
-        Command::Status { queue: true, .. } => first_ready(regs).is_some(),
-        _ => true,
-    }
-}
-
-// The first ready slot in order of ringing.
-fn first_ready(regs: &Regs) -> Option<u8>
-    ensures value { result ≡ first_at Ready regs.now.ring }
-    ensures below { IfSome result (λ slot. slot < 32) }
-{
-    for k in 0..32u8 {
-        let Some(slot) = regs.rung(k) else {
-            return None;
-        };
-        if is_ready(regs.progress(slot)) {
-            return Some(slot);
-        }
-    }
-    None
-}
-
-fn is_ready(progress: Progress) -> bool
-    ensures { result ≡ same progress Ready }
-{
-    match progress {
-        Progress::Ready => true,
-        _ => false,
     }
 }

@@ -2,7 +2,6 @@
 #![tactic(auto)]
 
 mod access;
-mod bus;
 mod going;
 mod print;
 mod raw;

@@ -1,7 +1,8 @@
 // Lines to the sink, with how that ended as the end of the script.
-ghost use Rattle.std.specs.Prelude.{◌≡◌, ◌++◌, Some};
-ghost use Rattle.raw_face.specs.Output.{IsSinkCause, Prints, Shows, ending, halt_of, lines_text, with_end};
+ghost use Rattle.std.specs.Prelude.{◌≡◌, ◌≢◌, ◌++◌, [], Some, IsErrOf};
+ghost use Rattle.raw_face.specs.Output.{IsSinkCause, Prints, Shows, ending, halt_of, lines_text, nothing, with_end};
 ghost use Rattle.raw_face.specs.Reply.{lines_in, output_of};
+ghost use Rattle.storage_model.specs.declared.ends.Halt.TheVariants.{SinkFailed};
 ghost use Rattle.storage_model.specs.declared.trace.Item.TheVariants.{Off};
 ghost use Rattle.trace_text.specs.Trace.{item_text};
 
@@ -43,9 +44,10 @@ fn halt_of(end: End) -> Result<(), Halt>
     }
 }
 
-/// Prints the line of a reply, and the line of the end where the script ends with it.
+/// Prints the line of a reply, and the line of the end where the script ends with it. The sink doesn't fail where there is neither.
 pub fn print_reply<K: Sink>(reply: &Reply, out: &mut K) -> Result<(), Halt>
     ensures shows { Shows K.took out.old (output_of reply.now) result out.new }
+    ensures failed { IsErrOf result SinkFailed → output_of reply.now ≢ nothing }
     ensures sink { IsSinkCause (K.faults out.old) (K.faults out.new) result }
 {
     print_line(&reply.line, out)?;
@@ -58,6 +60,7 @@ pub fn print_reply<K: Sink>(reply: &Reply, out: &mut K) -> Result<(), Halt>
 // Prints a line, if there is one.
 fn print_line<K: Sink>(line: &Option<RawLine>, out: &mut K) -> Result<(), Halt>
     ensures prints { Prints K.took out.old (lines_text (lines_in line.now)) result out.new }
+    ensures failed { IsErrOf result SinkFailed → lines_in line.now ≢ [] }
     ensures sink { IsSinkCause (K.faults out.old) (K.faults out.new) result }
 {
     match line {

@@ -10,12 +10,11 @@ ghost use Rattle.intent_store.specs.Intent.{IsNoImage, ShowsImage, shown_by};
 ghost use Rattle.raw_text.specs.Raw.{IsOp};
 ghost use Rattle.raw_text.specs.declared.op.RawOp.TheVariants.{Discard, Fill, Peek, Poke, Read, Show, Write};
 ghost use Rattle.raw_face.specs.Booting.{BootEnds};
-ghost use Rattle.raw_face.specs.Machine.{zeros};
+ghost use Rattle.raw_machine.specs.Machine.{zeros};
 ghost use Rattle.storage_model.specs.declared.ends.Halt.TheVariants.{SinkFailed};
 
 use crate::access::{fill, peek, poke, read, write};
-use crate::bus::event_of_card;
-use crate::going::{go, goes_on};
+use crate::going::go;
 use crate::print::{print, print_reply};
 use crate::reply::Reply;
 use crate::sector::{discard, flush, show};
@@ -27,6 +26,7 @@ use cq_regs::Regs;
 use host_mem::HostMem;
 use intent_store::StartEnd;
 use io_edge::Sink;
+use raw_machine::{event_of_card, goes_on};
 use raw_text::RawOp;
 use std::alloc::Global;
 use std::marker::Model;
@@ -54,7 +54,7 @@ pub struct Raw {
 }
 
 impl Model for Raw {
-    ghost use Rattle.raw_face.specs.Machine.{Machine};
+    ghost use Rattle.raw_machine.specs.Machine.{Machine};
 
     ghost Value = { Machine };
 
@@ -63,10 +63,10 @@ impl Model for Raw {
 
 impl Raw {
     ghost use Rattle.raw_face.specs.Booting.{BootEnds, Boots, IsOn, switched_on};
-    ghost use Rattle.raw_face.specs.Machine.{Stands, moment, switched_off};
+    ghost use Rattle.raw_machine.specs.Machine.{Stands, moment, switched_off};
     ghost use Rattle.raw_face.specs.Operation.{Does, Finishes};
     ghost use Rattle.raw_face.specs.Output.{IsSinkCause};
-    ghost use Rattle.raw_face.specs.Running.{Happens, IsBelow, end_after, goes_on};
+    ghost use Rattle.raw_machine.specs.Running.{Happens, IsBelow, end_after, goes_on};
 
     /// A card of depth 31 with 64 cache lines, which is not switched on, registers at their reset values, an engine without
     /// a task, and 1,048,576 bytes of 0 from 0x20000000 on. No fault befalls the bus, and all queued tasks are ready at

@@ -1,9 +1,11 @@
 use Rattle.std.proofs.Common.{refl, inl, inr, subst, ap, Err}
 use Rattle.card_core.specs.Card.{sectors}
+use Rattle.epoch_cache.specs.Cache.{Cache}
 use Rattle.cqmmc_top.specs.Refusal.{Says}
 use Rattle.cqmmc_top.specs.declared.refusal.Refusal.{Refusal}
 use Rattle.cqmmc_top.specs.declared.refusal.Refusal.TheVariants.{BadImage, ArrayFault, NoPower}
 use Rattle.cqmmc_top.proofs.Beginning.{begun, has_count}
+use Rattle.cqmmc_top.proofs.ScriptTold.{script_told}
 use Rattle.cqmmc_top.proofs.Playing.{cause_then, booted}
 use Rattle.cqmmc_top.specs.Raw.{by_opening}
 use Rattle.cqmmc_top.proofs.raw.begin.Goals as goal
@@ -19,6 +21,8 @@ returns-in-Ok g c = λ text before after means. inr (inr (record {
   end = c.play.new.raw;
   result = c.play.result;
   plays = c.play.ensures.plays;
+  told = script_told g.K.Sink.took c.args.script.now.raw c.boot.new.self _ _ c.args.script.now.ops _ _ _ _ c.requires.off (c.in-Ok.ensures.on (inl refl)) (c.in-Ok.ensures.contents (inl refl))
+      (ap (λ (cache : Cache). cache.last) (c.in-Ok.ensures.empty (inl refl))) c.in-Ok.ensures.shown c.play.ensures.plays;
   is = c.status_of.ensures;
   cause = cause_then _ _ _ _ _ _ _ (booted _ _ _ _ c.in-Ok.ensures.ends.faults c.in-Ok.ensures.ends.cuts c.in-Ok.ensures.sink.later) c.play.ensures.cause;
 }))

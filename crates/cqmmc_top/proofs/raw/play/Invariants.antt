@@ -1,6 +1,6 @@
 use Rattle.std.proofs.Common.{◌≡◌, List, Result, Ok, drop}
 use Rattle.storage_model.specs.declared.ends.Halt.{Halt}
-use Rattle.raw_face.specs.Machine.{Moment, Stands, moment}
+use Rattle.raw_machine.specs.Machine.{Moment, Stands, moment}
 use Rattle.cqmmc_top.specs.Print.{HasCause}
 use Rattle.cqmmc_top.specs.Raw.{Plays}
 use Rattle.cqmmc_top.proofs.raw.play.Given as goal

@@ -2,10 +2,10 @@ use Rattle.std.proofs.Common.{Ok, sym}
 use Rattle.std.proofs.lemmas.Result.{err_from_is_err_and}
 use Rattle.io_edge.specs.Sink.{Joins}
 use Rattle.card_link.specs.Made.{CardMade}
-use Rattle.raw_face.specs.Machine.{behind_of, moment}
+use Rattle.raw_machine.specs.Machine.{behind_of, moment}
 use Rattle.raw_face.specs.Reply.{output_of}
-use Rattle.raw_face.proofs.Falling.{event_down}
-use Rattle.raw_face.proofs.Runs.{Follows, ended_ok, failed, follows, later_both, over_by, run_more, run_over}
+use Rattle.raw_machine.proofs.Falling.{event_down}
+use Rattle.raw_face.proofs.Runs.{Follows, ended_ok, failed, follows, later_both, over_by, printed_after, run_more, run_over}
 use Rattle.raw_face.proofs.going.go.Goals as goal
 
 pub returns-in_err-print_reply-clause-does : goal.returns-in_err-print_reply-clause-does
@@ -21,7 +21,8 @@ returns-in_err-print_reply-clause-does g c =
     rw (p.1, p.2)
     (run_over g.K.Sink.took both old between new c.args.out.now c.loop-raw.out c.print_reply.new.out c.event-did.result (failed c.in_err-print_reply.field-0.0)
     c.loop-raw.invariant.run f
-    (over_by g.K.Sink.took c.loop-raw.out c.print_reply.new.out c.event-did.result c.event-did.new.self.regs c.in_err-print_reply.field-0.0 f.shows))
+    (over_by g.K.Sink.took c.loop-raw.out c.print_reply.new.out c.event-did.result c.event-did.new.self.regs c.in_err-print_reply.field-0.0 f.shows)
+    (printed_after c.event-did.result (output_of c.reply_of.result) (failed c.in_err-print_reply.field-0.0) c.reply_of.ensures c.in_err-print_reply.ensures.failed) c.requires.stands)
 
 pub returns-then-not-goes_on-clause-does : goal.returns-then-not-goes_on-clause-does
 returns-then-not-goes_on-clause-does g c =
@@ -32,7 +33,7 @@ returns-then-not-goes_on-clause-does g c =
     run_over g.K.Sink.took both old between new c.args.out.now c.loop-raw.out c.print_reply.new.out c.event-did.result (Ok tt) c.loop-raw.invariant.run
     (follows g.K.Sink.took between new c.loop-raw.out c.print_reply.new.out c.event-did.result (Ok tt) (output_of c.reply_of.result)
     c.event-did.ensures.happens c.reply_of.ensures c.in_ok-print_reply.ensures.shows c.event-did.ensures.ends c.loop-raw.invariant.stands.powered)
-    (λ apart. sym c.if-not-goes_on.ensures.value)
+    (λ apart. sym c.if-not-goes_on.ensures.value) (λ ok. absurd (cc ok)) c.requires.stands
 
 pub loop-raw-smaller : goal.loop-raw-smaller
 loop-raw-smaller g c =

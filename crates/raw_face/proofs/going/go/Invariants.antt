@@ -1,8 +1,8 @@
 use Rattle.cq_schedule.specs.Held.{remembered}
 use Rattle.storage_model.specs.Count.{Later}
-use Rattle.raw_face.specs.Machine.{Stands, moment}
+use Rattle.raw_machine.specs.Machine.{Stands, moment}
 use Rattle.raw_face.proofs.Runs.{HasRun}
-use Rattle.raw_face.proofs.WorkLeft.{work_left}
+use Rattle.raw_machine.proofs.WorkLeft.{work_left}
 use Rattle.raw_face.proofs.going.go.Given as goal
 
 abbrev pub invariant-loop-raw : goal.invariant-loop-raw

@@ -1,5 +1,5 @@
 use Rattle.std.proofs.Common.{rules}
-use Rattle.raw_face.specs.Machine.{zeros}
+use Rattle.raw_machine.specs.Machine.{zeros}
 use Rattle.raw_face.proofs.raw.memory.Goals as goal
 
 pub returns : goal.returns

@@ -84,19 +84,19 @@ todo_left Sent (Some held) = refl
 todo_left Ready (Some held) = refl
 todo_left Active (Some held) = refl
 
-remembered-at : (held : Places) (regs : Registers) (s : ℕ) → s < 32
+pub remembered-at : (held : Places) (regs : Registers) (s : ℕ) → s < 32
     → held_at (remembered held regs) s ≡ kept (progress_of regs.ring s) (held_at held s)
 unfolding slots
 remembered-at held regs s below =
     get_or-map-range_with_len (λ slot. kept (progress_of regs.ring slot) (held_at held slot)) 0 32 s s None below (zero-add s)
 
-noted-at : (held : Places) (regs : Registers) (s : ℕ) → s < 32
+pub noted-at : (held : Places) (regs : Registers) (s : ℕ) → s < 32
     → held_at (noted held regs) s ≡ left_at (progress_of regs.ring s) (held_at held s)
 unfolding slots
 noted-at held regs s below =
     get_or-map-range_with_len (λ slot. left_at (progress_of regs.ring slot) (held_at held slot)) 0 32 s s None below (zero-add s)
 
-kept-left : (p : Progress) (place : Option HeldTask) → kept p (left_at p place) ≡ left_at p place
+pub kept-left : (p : Progress) (place : Option HeldTask) → kept p (left_at p place) ≡ left_at p place
 kept-left p None = refl
 kept-left p (Some held) = let e : same p p ≡ true = same-refl p in ap (λ b. cond b (Some (record held { progress = p })) None) e
 

@@ -2,8 +2,8 @@ use Rattle.bus_link.specs.Link.{Call}
 use Rattle.card_link.specs.Behind.{behind}
 use Rattle.card_link.specs.Made.{CardMade}
 use Rattle.card_link.specs.declared.link.CardLink.{CardLink}
-use Rattle.raw_face.proofs.Mapped.{event_mapped}
-use Rattle.raw_face.proofs.bus.event_over.Goals as goal
+use Rattle.raw_machine.proofs.Mapped.{event_mapped}
+use Rattle.raw_machine.proofs.bus.event_over.Goals as goal
 
 pub returns-clause-event : goal.returns-clause-event
 returns-clause-event g c =

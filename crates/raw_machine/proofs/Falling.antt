@@ -50,8 +50,8 @@ use Rattle.cq_engine.specs.declared.words.TheConstants.{QUEUE_RCA}
 use Rattle.cq_engine.specs.Event.{Does, Event, Gives, Serves, Takes}
 use Rattle.cq_engine.proofs.Places.{length-remembered, set-other, set-same}
 use Rattle.cq_engine.proofs.SlotLaws.{advanced-other, completes, without-other, without-same}
-use Rattle.raw_face.specs.Running.{IsBelow, goes_on}
-use Rattle.raw_face.proofs.WorkLeft.{Falls, advanced_falls, work_falls, work_left, work_noted, blocks_in, moved_in, one_falls, todo, todo_at, without_falls}
+use Rattle.raw_machine.specs.Running.{IsBelow, goes_on}
+use Rattle.raw_machine.proofs.WorkLeft.{Falls, advanced_falls, work_falls, work_left, work_noted, blocks_in, moved_in, one_falls, todo, todo_at, without_falls}
 
 -- from the slots and places before, the outcome leaves less to do where the engine goes on
 abbrev pub GoesDown : Places → List Ringed → Outcome → Type 0

@@ -5,7 +5,7 @@ use Rattle.cq_regs.specs.Slots.{progress_of}
 use Rattle.cq_schedule.specs.Held.{same}
 use Rattle.cq_schedule.specs.Order.{order_of}
 use Rattle.cq_schedule.proofs.Finding.{order_at, past_more, past_found, past_end, order_ends}
-use Rattle.raw_face.proofs.going.first_ready.Goals as goal
+use Rattle.raw_machine.proofs.going.first_ready.Goals as goal
 
 pub returns-in_default-clause-value : goal.returns-in_default-clause-value
 returns-in_default-clause-value c =

@@ -1,0 +1,11 @@
+pub mod Answered
+pub mod Beginning
+pub mod Blocks
+pub mod Falling
+pub mod Kept
+pub mod Leading
+pub mod Mapped
+pub mod Naming
+pub mod NextDue
+pub mod Stages
+pub mod WorkLeft

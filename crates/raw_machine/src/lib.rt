@@ -1,0 +1,9 @@
+//! What a raw script drives, the host's memory, the registers of the host interface, the engine, and the card behind its bus:
+//! an event of the engine over the card, and whether the engine goes on after it.
+#![tactic(auto)]
+
+mod bus;
+mod going;
+
+pub use bus::event_of_card;
+pub use going::goes_on;
