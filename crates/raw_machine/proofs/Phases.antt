@@ -1,0 +1,168 @@
+-- A block of a data phase, and its end.
+use Rattle.std.proofs.Common.{◌≡◌, ◌≢◌, ◌<◌, ◌≤◌, ◌+◌, ◌==◌, ◌&&◌, ◌⊎◌, ℕ, suc, Bool, true, false, cond, refl, sym, ◌∙◌, ap, subst, arith, inl, inr}
+use Rattle.std.specs.Prelude.{◌||◌, ◌++◌, not, nat_le, nat_lt, List, [], ◌∷◌, Option, Some, None, Result, Ok, Err, min, slice_set}
+use Rattle.std.specs.Bool.{MatchBool}
+use Rattle.std.specs.Option.{IsSomeAnd, option_map, option_map_or}
+use Rattle.std.proofs.lemmas.Bool.{and_parts, false≢true, le-leb, le-ltb, lt-leb, lt-ltb, ltb-false, ltb-true, true≢false}
+use Rattle.std.proofs.lemmas.Bool.Decides.{eqb_tells}
+use Rattle.std.proofs.lemmas.List.{append-nil, append_assoc}
+use Rattle.bus_link.specs.declared.link.Cause.{Cause}
+use Rattle.bus_link.specs.declared.link.LinkEnd.{LinkEnd}
+use Rattle.bus_link.specs.declared.link.LinkEnd.TheVariants as link_end
+use Rattle.card_core.specs.Card.{CardState}
+use Rattle.card_core.specs.Moving.{must_keep, next_put}
+use Rattle.card_core.specs.Serving.{End, by_end, without_error, word_of}
+use Rattle.card_core.specs.declared.ends.Dark.{Dark}
+use Rattle.card_core.specs.declared.phase.DataPhase.{DataPhase}
+use Rattle.card_link.specs.Made.{CardMade}
+use Rattle.card_store.specs.Store.{Contents, kept, same, with_put}
+use Rattle.cmd_words.specs.declared.status.Status.{Status as ErrorSet}
+use Rattle.cmd_words.specs.declared.status.TheConstants.Status.{DEVICE_ECC_FAILED, ERROR}
+use Rattle.cq_engine.specs.After.{after_block, after_close}
+use Rattle.cq_engine.specs.Event.{Closes, Does, Gives, MovesBlock, Takes, read_into as engine_read}
+use Rattle.cq_engine.specs.Outcome.{Outcome, host_of, outcome_of}
+use Rattle.cq_engine.specs.declared.did.Did.{Did}
+use Rattle.cq_engine.specs.declared.did.Did.TheVariants.{Finished, Moved, Stopped}
+use Rattle.cq_engine.proofs.Places.{length-remembered, set-same}
+use Rattle.cq_chain.specs.declared.pieces.Piece.{Piece}
+use Rattle.cq_regs.specs.Slots.{progress_of, without}
+use Rattle.cq_regs.specs.State.{Registers}
+use Rattle.cq_regs.specs.declared.slots.Progress.{Progress}
+use Rattle.cq_regs.specs.declared.slots.Progress.TheVariants.{Active}
+use Rattle.cq_schedule.specs.Held.{Places, held_at, kept as kept_place, left_at, none_held, remembered, with_block as with_one}
+use Rattle.cq_schedule.specs.Meaning.{next_of_phase}
+use Rattle.cq_schedule.specs.declared.held.HeldTask.{HeldTask}
+use Rattle.cq_schedule.specs.declared.rules.Due.{Due}
+use Rattle.cq_schedule.specs.declared.rules.Due.TheVariants.{Block as NextBlock, Close, Execute}
+use Rattle.cq_task.specs.declared.slot.DataTask.{DataTask}
+use Rattle.host_mem.specs.Memory.{Memory}
+use Rattle.intent_store.specs.declared.ends.StoreEnd.TheVariants.{Flash, PowerLost}
+use Rattle.piece_data.specs.Data.{block_of, with_block}
+use Rattle.storage_model.specs.Keep.{is_named}
+use Rattle.storage_model.specs.declared.block.Block.{Block}
+use Rattle.storage_model.specs.declared.marks.Mark.{Mark}
+use Rattle.storage_model.specs.declared.marks.Mark.TheVariants.{Put as PutMark}
+use Rattle.task_queue.specs.declared.queue.Queued.{Queued}
+use Rattle.raw_machine.specs.Answering.{card_of, seen}
+use Rattle.raw_machine.specs.Machine.{Moment, behind_of}
+use Rattle.raw_machine.specs.Moving.{HasMoved, block_read, contents_after, keeps, mark_of, marks_of, memory_after, phase_answer, phase_of, read_into, with_marks}
+use Rattle.raw_machine.specs.Running.{Happens}
+use Rattle.raw_machine.specs.State.{PlainCard, RawState, turned}
+use Rattle.raw_machine.specs.Tasks.{Moves, MovesBlocks, Works}
+use Rattle.raw_machine.specs.Tasks.Moves.{moves}
+use Rattle.raw_machine.specs.Telling.{plain}
+use Rattle.raw_machine.proofs.Blocks.{BlockMoved, ClosesPhase, MovesOne, PhaseClosed, TakesOne, given, keeps_write, next_read, phase_closes, taken}
+use Rattle.raw_machine.proofs.Blocks.BlockMoved.{past, moved, failed, dark}
+use Rattle.raw_machine.proofs.Blocks.PhaseClosed.{closed_only, write_kept, write_failed, write_dark}
+use Rattle.raw_machine.proofs.Kept.{AllRung, Has, between_ended, has_counted, has_finished, keeps_has, noted_at, rung_without}
+use Rattle.raw_machine.proofs.Leading.{LedEnd, led_end}
+use Rattle.raw_machine.proofs.Leading.LedEnd.{stops, ends}
+use Rattle.raw_machine.proofs.Naming.{Facts, done_by, facts, running, rung_same, rung_told}
+use Rattle.raw_machine.proofs.NextDue.{phase_due}
+use Rattle.raw_machine.proofs.Stages.{Behinds, IsDone, IsMoving, Leaves, contents_moving, leaves_as, moving_state, partly_from, phase_at, sent_state, tells_from}
+use Rattle.raw_machine.proofs.WorkLeft.{remembered-at}
+
+-- what an event of a data phase leaves: one block more moved, or the task is done
+pub data Onward (state : RawState) (did : Did) (new : Moment) : Type 0 where
+  onward : {slot : ℕ} → did ≡ Moved slot → IsMoving state new → Onward state did new
+  over : IsDone state did new → Onward state did new
+
+least : (k n : ℕ) → (min k n == n) ≡ nat_le n k
+least k n = elim (eqb_tells (min k n) n) [
+  | inl t ↦ t.0 ∙ sym (le-leb n k (omega (arith, t.1)))
+  | inr t ↦ t.0 ∙ sym (lt-leb n k (omega (arith, t.1)))
+]
+
+-- what read and write come to
+memory_read : (memory : Memory) (pieces : List Piece) (c : Contents) (queued : Queued) (n : ℕ) → queued.task.read ≡ true
+    → memory_after memory pieces c queued n ≡ read_into memory pieces c queued n
+memory_read memory pieces c queued n e = ap (λ b. cond b (read_into memory pieces c queued n) memory) e
+
+memory_written : (memory : Memory) (pieces : List Piece) (c : Contents) (queued : Queued) (n : ℕ) → queued.task.read ≡ false
+    → memory_after memory pieces c queued n ≡ memory
+memory_written memory pieces c queued n e = ap (λ b. cond b (read_into memory pieces c queued n) memory) e
+
+contents_read : (start : RawState) (task : DataTask) (queued : Queued) (n : ℕ) (c : Contents) → queued.task.read ≡ true → contents_moving start task queued n c ≡ c
+contents_read start task queued n c e = ap (λ b. cond b c (with_marks (marks_of start.memory task.pieces queued n) c)) e
+
+contents_written : (start : RawState) (task : DataTask) (queued : Queued) (n : ℕ) (c : Contents) → queued.task.read ≡ false
+    → contents_moving start task queued n c ≡ with_marks (marks_of start.memory task.pieces queued n) c
+contents_written start task queued n c e = ap (λ b. cond b c (with_marks (marks_of start.memory task.pieces queued n) c)) e
+
+held_kept : (place : Option HeldTask) (progress : Progress) (task : DataTask) (k : ℕ) → progress ≡ Active
+    → place ≡ Some (record { task = task; progress = Active; moved = k }) → kept_place progress place ≡ Some (record { task = task; progress = Active; moved = k })
+held_kept place progress task k p e =
+    let P : Progress → Type 0 = λ x. kept_place x place ≡ Some (record { task = task; progress = Active; moved = k }) in
+    subst P (sym p) (ap (kept_place Active) e)
+
+due_if : (held : Places) (slot : ℕ) (task : DataTask) (k : ℕ) → held_at held slot ≡ Some (record { task = task; progress = Active; moved = k })
+    → next_of_phase held slot ≡ cond (nat_lt k task.desc.blocks) (NextBlock slot k) (Close slot)
+due_if held slot task k e =
+    ap (λ (place : Option HeldTask). cond (nat_lt (option_map_or (λ h. h.moved) place 0) (option_map_or (λ h. h.task.desc.blocks) place 0))
+    (NextBlock slot (option_map_or (λ h. h.moved) place 0)) (Close slot)) e
+
+module _ (state : RawState) (old new : Moment) (did : Did) (m : IsMoving state old) (f : Facts (moving_state m.start m.task m.queued m.k) old new did) where
+  abbrev held : Places
+  held = remembered old.machine.engine.held m.start.regs
+
+  abbrev outcome : Outcome
+  outcome = outcome_of did f.left.held f.left.regs
+
+  on : m.start.regs.stopped ≡ false
+  on = running m.start.regs m.runs
+
+  rung : AllRung m.start.regs.ring
+  rung = rung_told (moving_state m.start m.task m.queued m.k) old m.tells
+
+  has : Has held m.start.regs m.start.tasks
+  has = keeps_has held m.start.regs m.start.tasks (f.keeps on)
+
+  held_now : held_at held m.slot ≡ Some (record { task = m.task; progress = Active; moved = m.k })
+  held_now =
+      remembered-at old.machine.engine.held m.start.regs m.slot m.below
+      ∙ held_kept (held_at old.machine.engine.held m.slot) (progress_of m.start.regs.ring m.slot) m.task m.k m.active m.held
+
+  is_due : f.due ≡ cond (nat_lt m.k m.task.desc.blocks) (NextBlock m.slot m.k) (Close m.slot)
+  is_due =
+      phase_due held m.start.regs (moving_state m.start m.task m.queued m.k).memory m.slot m.place f.due m.runs m.is_at m.active (λ other apart. (m.others other apart).1) f.is_due
+      ∙ due_if held m.slot m.task m.k held_now
+
+  abbrev ended_state : ℕ → End → Registers → RawState
+  ended_state n end left = record m.start {
+    memory = memory_after m.start.memory m.task.pieces m.start.card.contents m.queued n;
+    regs = left;
+    card = turned (contents_after m.start.card m.start.memory m.task.pieces m.queued n end) m.start.card;
+  }
+
+  works : (n : ℕ) (end : End) → HasMoved m.task m.queued (keeps m.start.card m.queued n) n end → (d : Did) (left : Registers) (holds : Places → Places)
+      → ((places : Places) → after_close (host_of places m.start.regs) m.slot m.task.desc (seen (phase_answer m.task.desc.read end)) ≡ outcome_of d (holds places) left)
+      → Works state d (ended_state n end left)
+  works n end extent d left holds e =
+      let P : Option DataTask → Type 0 = λ o. IsSomeAnd o (λ task. Moves m.slot task state d (ended_state n end left)) in
+      let b : MovesBlocks m.slot m.task m.queued m.start d (ended_state n end left) = record {
+        moved = n;
+        end = end;
+        extent = extent;
+        is = sym (ap (λ (o : Outcome). o.did) (e none_held));
+        state = ap (λ regs. ended_state n end regs) (sym (ap (λ (o : Outcome). o.host.regs) (e none_held)));
+      } in
+      record { due = Execute m.slot; is_due = m.due; acts = subst P (sym m.is_task) (moves m.sends m.taken b) }
+
+  -- the task is done, after so many blocks
+  by_end_of : (n : ℕ) (end : End) → HasMoved m.task m.queued (keeps m.start.card m.queued n) n end
+      → outcome ≡ after_close (host_of held m.start.regs) m.slot m.task.desc (seen (phase_answer m.task.desc.read end))
+      → memory_after m.start.memory m.task.pieces m.start.card.contents m.queued n ≡ new.machine.memory
+      → Behinds new (turned (contents_after m.start.card m.start.memory m.task.pieces m.queued n end) m.start.card)
+      → LedEnd m.start.regs m.slot m.task.desc (seen (phase_answer m.task.desc.read end)) → IsDone state did new
+  by_end_of n end extent o memory behind (stops cause left stopped ring e) =
+      let after : RawState = ended_state n end left in
+      done_by state after new did (Stopped cause) (ap (λ (x : Outcome). x.did) (o ∙ e held)) (works n end extent (Stopped cause) left (λ places. places) e)
+      (tells_from new after held left (leaves_as new did (Stopped cause) f.left.held held f.left.regs left f.leaves (o ∙ e held)) memory refl behind
+      (rung_same m.start.regs.ring left.ring ring rung) (λ go. absurd (true≢false (sym stopped ∙ go))) (λ go. absurd (true≢false (sym stopped ∙ go))))
+  by_end_of n end extent o memory behind (ends left stopped ring e) =
+      let after : RawState = ended_state n end left in
+      let places : Places = slice_set held m.slot None in
+      done_by state after new did (Finished m.slot) (ap (λ (x : Outcome). x.did) (o ∙ e held)) (works n end extent (Finished m.slot) left (λ p. slice_set p m.slot None) e)
+      (tells_from new after places left (leaves_as new did (Finished m.slot) f.left.held places f.left.regs left f.leaves (o ∙ e held)) memory refl behind
+      (rung_same (without m.start.regs.ring m.slot) left.ring ring (rung_without m.start.regs.ring m.slot rung))
+      (λ go. has_finished held m.start.regs left m.start.tasks m.slot has ring) (λ go. between_ended m.start.regs left m.slot m.others ring))
