@@ -1,6 +1,6 @@
 -- A block of a data phase, and its end.
 use Rattle.std.proofs.Common.{◌≡◌, ◌≢◌, ◌<◌, ◌≤◌, ◌+◌, ◌==◌, ◌&&◌, ◌⊎◌, ℕ, suc, Bool, true, false, cond, refl, sym, ◌∙◌, ap, subst, arith, inl, inr}
-use Rattle.std.specs.Prelude.{◌||◌, ◌++◌, not, nat_le, nat_lt, List, [], ◌∷◌, Option, Some, None, Result, Ok, Err, min, slice_set}
+use Rattle.std.specs.Prelude.{◌||◌, ◌++◌, length, is_some, not, nat_le, nat_lt, List, [], ◌∷◌, Option, Some, None, Result, Ok, Err, min, slice_set}
 use Rattle.std.specs.Bool.{MatchBool}
 use Rattle.std.specs.Option.{IsSomeAnd, option_map, option_map_or}
 use Rattle.std.proofs.lemmas.Bool.{and_parts, false≢true, le-leb, le-ltb, lt-leb, lt-ltb, ltb-false, ltb-true, true≢false}
@@ -15,7 +15,7 @@ use Rattle.card_core.specs.Serving.{End, by_end, without_error, word_of}
 use Rattle.card_core.specs.declared.ends.Dark.{Dark}
 use Rattle.card_core.specs.declared.phase.DataPhase.{DataPhase}
 use Rattle.card_link.specs.Made.{CardMade}
-use Rattle.card_store.specs.Store.{Contents, kept, same, with_put}
+use Rattle.card_store.specs.Store.{Contents, Stands as StoreStands, kept, same, with_put}
 use Rattle.cmd_words.specs.declared.status.Status.{Status as ErrorSet}
 use Rattle.cmd_words.specs.declared.status.TheConstants.Status.{DEVICE_ECC_FAILED, ERROR}
 use Rattle.cq_engine.specs.After.{after_block, after_close}
@@ -50,7 +50,7 @@ use Rattle.raw_machine.specs.Running.{Happens}
 use Rattle.raw_machine.specs.State.{PlainCard, RawState, turned}
 use Rattle.raw_machine.specs.Tasks.{Moves, MovesBlocks, Works}
 use Rattle.raw_machine.specs.Tasks.Moves.{moves}
-use Rattle.raw_machine.specs.Telling.{plain}
+use Rattle.raw_machine.specs.Telling.{IsQuietScript, plain}
 use Rattle.raw_machine.proofs.Blocks.{BlockMoved, ClosesPhase, MovesOne, PhaseClosed, TakesOne, given, keeps_write, next_read, phase_closes, taken}
 use Rattle.raw_machine.proofs.Blocks.BlockMoved.{past, moved, failed, dark}
 use Rattle.raw_machine.proofs.Blocks.PhaseClosed.{closed_only, write_kept, write_failed, write_dark}
@@ -166,3 +166,61 @@ module _ (state : RawState) (old new : Moment) (did : Did) (m : IsMoving state o
       (tells_from new after places left (leaves_as new did (Finished m.slot) f.left.held places f.left.regs left f.leaves (o ∙ e held)) memory refl behind
       (rung_same (without m.start.regs.ring m.slot) left.ring ring (rung_without m.start.regs.ring m.slot rung))
       (λ go. has_finished held m.start.regs left m.start.tasks m.slot has ring) (λ go. between_ended m.start.regs left m.slot m.others ring))
+
+  abbrev c : Contents
+  c = contents_moving m.start m.task m.queued m.k m.start.card.contents
+
+  abbrev phase : DataPhase
+  phase = phase_at m.queued m.k
+
+  -- the card with other contents, where queue, extended CSD and epoch stay
+  behind_with : (after : Contents) → plain new.machine.card after ≡ record (plain old.machine.card c) { contents = after }
+      → StoreStands after new.machine.card.store new.array → is_some new.array.told ≡ is_some old.array.told → IsQuietScript new.machine.script
+      → Behinds new (record m.start.card { contents = after })
+  behind_with after others stands told script = record {
+    is = ap (λ (card : PlainCard). record card { contents = after }) m.tells.card ∙ sym others;
+    contents = stands;
+    told = told ∙ m.tells.told;
+    script = script;
+  }
+
+  -- a block more moved
+  one_more : (after : Contents) → Behinds new (record m.start.card { contents = after })
+      → after ≡ contents_moving m.start m.task m.queued (m.k + 1) m.start.card.contents
+      → memory_after m.start.memory m.task.pieces m.start.card.contents m.queued (m.k + 1) ≡ new.machine.memory
+      → new.machine.card.phase ≡ Some (phase_at m.queued (m.k + 1)) → m.k < m.task.desc.blocks
+      → outcome ≡ outcome_of (Moved m.slot) (slice_set held m.slot (option_map with_one (held_at held m.slot))) m.start.regs → Onward state did new
+  one_more after behind turns memory open_phase less o =
+      let places : Places = slice_set held m.slot (option_map with_one (held_at held m.slot)) in
+      let long = length-remembered old.machine.engine.held m.start.regs in
+      let inside : m.slot < length held = omega (arith, long, m.below) in
+      let l = leaves_as new did (Moved m.slot) f.left.held places f.left.regs m.start.regs f.leaves o in
+      let H : Progress → Type 0 = λ p. left_at p (Some (record { task = m.task; progress = Active; moved = m.k + 1 }))
+      ≡ Some (record { task = m.task; progress = Active; moved = m.k + 1 }) in
+      let B : Contents → Type 0 = λ x. Behinds new (record m.start.card { contents = x }) in
+      onward {slot = m.slot} (ap (λ (x : Outcome). x.did) o) (record {
+        slot = m.slot;
+        task = m.task;
+        queued = m.queued;
+        command = m.command;
+        start = m.start;
+        k = m.k + 1;
+        below = m.below;
+        due = m.due;
+        is_task = m.is_task;
+        taken = m.taken;
+        direction = m.direction;
+        sends = m.sends;
+        place = m.place;
+        is_at = m.is_at;
+        active = m.active;
+        others = m.others;
+        runs = m.runs;
+        within = omega arith;
+        phase = open_phase;
+        held = ap (λ p. held_at p m.slot) l.held ∙ noted_at places m.start.regs m.slot m.below
+            ∙ ap (left_at (progress_of m.start.regs.ring m.slot)) (set-same held m.slot (option_map with_one (held_at held m.slot)) inside ∙ ap (option_map with_one) held_now)
+            ∙ subst H (sym m.active) refl;
+        tells = partly_from new (moving_state m.start m.task m.queued (m.k + 1)) places m.start.regs l memory refl (subst B turns behind) rung
+            (λ go. has_counted held m.start.regs m.start.regs m.start.tasks m.slot long m.below has refl m.active);
+      })
