@@ -1,6 +1,6 @@
 -- A block of a data phase, and its end.
 use Rattle.std.proofs.Common.{◌≡◌, ◌≢◌, ◌<◌, ◌≤◌, ◌+◌, ◌==◌, ◌&&◌, ◌⊎◌, ℕ, suc, Bool, true, false, cond, refl, sym, ◌∙◌, ap, subst, arith, inl, inr}
-use Rattle.std.specs.Prelude.{◌||◌, ◌++◌, length, is_some, not, nat_le, nat_lt, List, [], ◌∷◌, Option, Some, None, Result, Ok, Err, min, slice_set}
+use Rattle.std.specs.Prelude.{◌||◌, ◌++◌, OnOk, length, replicate, is_some, not, nat_le, nat_lt, List, [], ◌∷◌, Option, Some, None, Result, Ok, Err, min, slice_set}
 use Rattle.std.specs.Bool.{MatchBool}
 use Rattle.std.specs.Option.{IsSomeAnd, option_map, option_map_or}
 use Rattle.std.proofs.lemmas.Bool.{and_parts, false≢true, le-leb, le-ltb, lt-leb, lt-ltb, ltb-false, ltb-true, true≢false}
@@ -36,8 +36,10 @@ use Rattle.cq_schedule.specs.declared.rules.Due.{Due}
 use Rattle.cq_schedule.specs.declared.rules.Due.TheVariants.{Block as NextBlock, Close, Execute}
 use Rattle.cq_task.specs.declared.slot.DataTask.{DataTask}
 use Rattle.host_mem.specs.Memory.{Memory}
+use Rattle.intent_store.specs.declared.ends.StoreEnd.{StoreEnd}
 use Rattle.intent_store.specs.declared.ends.StoreEnd.TheVariants.{Flash, PowerLost}
 use Rattle.piece_data.specs.Data.{block_of, with_block}
+use Rattle.storage_model.specs.Contents.{contents_now, sector_at}
 use Rattle.storage_model.specs.Keep.{is_named}
 use Rattle.storage_model.specs.declared.block.Block.{Block}
 use Rattle.storage_model.specs.declared.marks.Mark.{Mark}
@@ -72,6 +74,9 @@ least k n = elim (eqb_tells (min k n) n) [
   | inl t ↦ t.0 ∙ sym (le-leb n k (omega (arith, t.1)))
   | inr t ↦ t.0 ∙ sym (lt-leb n k (omega (arith, t.1)))
 ]
+
+suc_is : (n : ℕ) → n + 1 ≡ suc n
+suc_is n = omega arith
 
 -- what read and write come to
 memory_read : (memory : Memory) (pieces : List Piece) (c : Contents) (queued : Queued) (n : ℕ) → queued.task.read ≡ true
@@ -224,3 +229,130 @@ module _ (state : RawState) (old new : Moment) (did : Did) (m : IsMoving state o
         tells = partly_from new (moving_state m.start m.task m.queued (m.k + 1)) places m.start.regs l memory refl (subst B turns behind) rung
             (λ go. has_counted held m.start.regs m.start.regs m.start.tasks m.slot long m.below has refl m.active);
       })
+
+  phase_past : m.queued.task.blocks ≤ phase.moved → phase_at m.queued m.k ≡ phase_at m.queued (m.k + 1)
+  phase_past h = ap (λ n. record { task = m.queued.task; start = m.queued.start; moved = n }) (omega arith)
+
+  phase_moved : phase.moved < m.queued.task.blocks → phase.moved + 1 ≡ min (m.k + 1) m.queued.task.blocks
+  phase_moved h = omega arith
+
+  -- how far a data phase came that a block broke off
+  broken : (end : StoreEnd) → m.k < m.task.desc.blocks → phase.moved < m.queued.task.blocks → HasMoved m.task m.queued (keeps m.start.card m.queued m.k) m.k (Err end)
+  broken end less few = record { within = m.within; whole = tt; failed = inl (less, omega arith) }
+
+  by_broken : (end : StoreEnd) → m.k < m.task.desc.blocks → phase.moved < m.queued.task.blocks → Behinds new (record m.start.card { contents = c })
+      → new.machine.memory ≡ (moving_state m.start m.task m.queued m.k).memory
+      → outcome ≡ after_close (host_of held m.start.regs) m.slot m.task.desc (seen (phase_answer m.task.desc.read (Err end))) → IsDone state did new
+  by_broken end less few behind memory o =
+      by_end_of m.k (Err end) (broken end less few) o (sym memory) behind
+      (led_end m.start.regs m.slot m.task.desc (seen (phase_answer m.task.desc.read (Err end))))
+
+  abbrev Left : Result (Unit {0}) LinkEnd → Type 0
+  Left answer = outcome ≡ after_block (host_of held m.start.regs) m.slot m.task.desc answer
+
+  -- the word of a failed block, by the direction
+  word_as : (read : Bool) → m.task.desc.read ≡ read → phase_answer read (Err Flash) ≡ phase_answer m.task.desc.read (Err Flash)
+  word_as read e = ap (λ b. phase_answer b (Err Flash)) (sym e)
+
+  -- the block of a write
+  abbrev block : Block
+  block = block_of (moving_state m.start m.task m.queued m.k).memory m.task.pieces m.k
+
+  marks_more : (marks : List Mark) → mark_of m.start.memory m.task.pieces m.queued m.k ≡ marks
+      → with_marks (marks_of m.start.memory m.task.pieces m.queued (m.k + 1)) m.start.card.contents
+      ≡ with_marks (marks_of m.start.memory m.task.pieces m.queued m.k ++ marks) m.start.card.contents
+  unfolding marks_of
+  marks_more marks e =
+      ap (λ n. with_marks (marks_of m.start.memory m.task.pieces m.queued n) m.start.card.contents) (suc_is m.k)
+      ∙ ap (λ more. with_marks (marks_of m.start.memory m.task.pieces m.queued m.k ++ more) m.start.card.contents) e
+
+  module _ (write : m.queued.task.read ≡ false) where
+    c_is : c ≡ with_marks (marks_of m.start.memory m.task.pieces m.queued m.k) m.start.card.contents
+    c_is = contents_written m.start m.task m.queued m.k m.start.card.contents write
+
+    no_mark : m.queued.task.blocks ≤ phase.moved → mark_of m.start.memory m.task.pieces m.queued m.k ≡ []
+    no_mark h = ap (λ b. cond b (PutMark (record { sector = m.queued.start + m.k; value = block_of m.start.memory m.task.pieces m.k; reliable = m.queued.task.reliable }) ∷ []) [])
+        (le-ltb m.k m.queued.task.blocks (omega arith))
+
+    one_mark : phase.moved < m.queued.task.blocks → mark_of m.start.memory m.task.pieces m.queued m.k ≡ PutMark (next_put phase block) ∷ []
+    one_mark h =
+        ap (λ b. cond b (PutMark (record { sector = m.queued.start + m.k; value = block_of m.start.memory m.task.pieces m.k; reliable = m.queued.task.reliable }) ∷ []) [])
+        (lt-ltb m.k m.queued.task.blocks (omega arith))
+        ∙ ap (λ n. PutMark (record { sector = m.queued.start + n; value = block_of m.start.memory m.task.pieces m.k; reliable = m.queued.task.reliable }) ∷ []) (omega arith)
+        ∙ ap (λ memory. PutMark (record { sector = m.queued.start + phase.moved; value = block_of memory m.task.pieces m.k; reliable = m.queued.task.reliable }) ∷ [])
+        (sym (memory_written m.start.memory m.task.pieces m.start.card.contents m.queued m.k write))
+
+    turned_past : m.queued.task.blocks ≤ phase.moved → c ≡ contents_moving m.start m.task m.queued (m.k + 1) m.start.card.contents
+    turned_past h =
+        c_is ∙ ap (λ marks. with_marks marks m.start.card.contents) (sym (append-nil (marks_of m.start.memory m.task.pieces m.queued m.k)))
+        ∙ sym (marks_more [] (no_mark h)) ∙ sym (contents_written m.start m.task m.queued (m.k + 1) m.start.card.contents write)
+
+    turned_moved : phase.moved < m.queued.task.blocks → with_put (next_put phase block) c ≡ contents_moving m.start m.task m.queued (m.k + 1) m.start.card.contents
+    turned_moved h =
+        ap (with_put (next_put phase block)) c_is
+        ∙ ap (λ pend. record m.start.card.contents { pend = pend })
+        (append_assoc m.start.card.contents.pend (marks_of m.start.memory m.task.pieces m.queued m.k) (PutMark (next_put phase block) ∷ []))
+        ∙ sym (marks_more (PutMark (next_put phase block) ∷ []) (one_mark h))
+        ∙ sym (contents_written m.start m.task m.queued (m.k + 1) m.start.card.contents write)
+
+    memory_stays : new.machine.memory ≡ (moving_state m.start m.task m.queued m.k).memory
+        → memory_after m.start.memory m.task.pieces m.start.card.contents m.queued (m.k + 1) ≡ new.machine.memory
+    memory_stays e =
+        memory_written m.start.memory m.task.pieces m.start.card.contents m.queued (m.k + 1) write
+        ∙ sym (memory_written m.start.memory m.task.pieces m.start.card.contents m.queued m.k write) ∙ sym e
+
+    by_given : (answer : Result (Unit {0}) LinkEnd) (after : Contents)
+        → BlockMoved ERROR phase (behind_of old) (behind_of new) c (with_put (next_put phase block)) answer after
+        → Behinds new (record m.start.card { contents = after }) → Left answer → new.machine.memory ≡ (moving_state m.start m.task m.queued m.k).memory
+        → m.k < m.task.desc.blocks → Onward state did new
+    by_given answer after (past h card array) behind o memory less =
+        one_more c behind (turned_past h) (memory_stays memory) (ap (λ (x : CardState). x.phase) card ∙ m.phase ∙ ap Some (phase_past h)) less o
+    by_given answer after (moved h card) behind o memory less =
+        one_more (with_put (next_put phase block) c) behind (turned_moved h) (memory_stays memory)
+        (ap (λ (x : CardState). x.phase) card ∙ ap (λ n. Some (record phase { moved = n })) (phase_moved h)) less o
+    by_given answer after (failed h card) behind o memory less =
+        over (by_broken Flash less h behind memory (o ∙ ap (λ a. after_close (host_of held m.start.regs) m.slot m.task.desc (seen a)) (word_as false (sym m.direction ∙ write))))
+    by_given answer after (dark h card) behind o memory less = over (by_broken PowerLost less h behind memory o)
+
+  module _ (read : m.queued.task.read ≡ true) where
+    c_same : c ≡ m.start.card.contents
+    c_same = contents_read m.start m.task m.queued m.k m.start.card.contents read
+
+    c_more : c ≡ contents_moving m.start m.task m.queued (m.k + 1) m.start.card.contents
+    c_more = c_same ∙ sym (contents_read m.start m.task m.queued (m.k + 1) m.start.card.contents read)
+
+    -- the block that comes next, of the card's task or past it
+    block_if : (within : Bool) → nat_lt m.k m.queued.task.blocks ≡ within → next_read phase c ≡ block_read m.start.card.contents m.queued m.k
+    block_if true e =
+        let less : m.k < m.queued.task.blocks = ltb-true m.k m.queued.task.blocks e in
+        ap (λ (x : Contents). block_read x m.queued phase.moved) c_same ∙ ap (λ n. block_read m.start.card.contents m.queued n) (omega arith)
+    block_if false e =
+        let past : m.queued.task.blocks ≤ m.k = ltb-false m.k m.queued.task.blocks e in
+        let one : nat_lt phase.moved m.queued.task.blocks ≡ false = le-ltb phase.moved m.queued.task.blocks (omega arith) in
+        ap (λ b. cond b (sector_at (contents_now c.base c.pend) (m.queued.start + phase.moved)) (record { 0 = replicate 512 0 })) one
+        ∙ sym (ap (λ b. cond b (sector_at (contents_now m.start.card.contents.base m.start.card.contents.pend) (m.queued.start + m.k)) (record { 0 = replicate 512 0 })) e)
+
+    read_more : (value : Block) → value ≡ next_read phase c
+        → memory_after m.start.memory m.task.pieces m.start.card.contents m.queued (m.k + 1)
+        ≡ with_block (moving_state m.start m.task m.queued m.k).memory m.task.pieces m.k value
+    unfolding read_into
+    read_more value e =
+        memory_read m.start.memory m.task.pieces m.start.card.contents m.queued (m.k + 1) read
+        ∙ ap (λ n. read_into m.start.memory m.task.pieces m.start.card.contents m.queued n) (suc_is m.k)
+        ∙ ap (λ b. with_block (read_into m.start.memory m.task.pieces m.start.card.contents m.queued m.k) m.task.pieces m.k b)
+        (sym (e ∙ block_if (nat_lt m.k m.queued.task.blocks) refl))
+        ∙ ap (λ memory. with_block memory m.task.pieces m.k value) (sym (memory_read m.start.memory m.task.pieces m.start.card.contents m.queued m.k read))
+
+    by_taken : (value : Block) (answer : Result (Unit {0}) LinkEnd) (after : Contents)
+        → BlockMoved DEVICE_ECC_FAILED phase (behind_of old) (behind_of new) c same answer after → OnOk answer (value ≡ next_read phase c)
+        → Behinds new (record m.start.card { contents = after }) → Left answer
+        → new.machine.memory ≡ engine_read (moving_state m.start m.task m.queued m.k).memory m.task.pieces m.k value answer
+        → m.k < m.task.desc.blocks → Onward state did new
+    by_taken value answer after (past h card array) next behind o memory less =
+        one_more c behind c_more (read_more value next ∙ sym memory) (ap (λ (x : CardState). x.phase) card ∙ m.phase ∙ ap Some (phase_past h)) less o
+    by_taken value answer after (moved h card) next behind o memory less =
+        one_more c behind c_more (read_more value next ∙ sym memory)
+        (ap (λ (x : CardState). x.phase) card ∙ ap (λ n. Some (record phase { moved = n })) (phase_moved h)) less o
+    by_taken value answer after (failed h card) next behind o memory less =
+        over (by_broken Flash less h behind memory (o ∙ ap (λ a. after_close (host_of held m.start.regs) m.slot m.task.desc (seen a)) (word_as true (sym m.direction ∙ read))))
+    by_taken value answer after (dark h card) next behind o memory less = over (by_broken PowerLost less h behind memory o)
