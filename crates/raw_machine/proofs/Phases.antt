@@ -3,7 +3,7 @@ use Rattle.std.proofs.Common.{◌≡◌, ◌≢◌, ◌<◌, ◌≤◌, ◌+◌,
 use Rattle.std.specs.Prelude.{◌||◌, ◌++◌, OnOk, length, replicate, is_some, not, nat_le, nat_lt, List, [], ◌∷◌, Option, Some, None, Result, Ok, Err, min, slice_set}
 use Rattle.std.specs.Bool.{MatchBool}
 use Rattle.std.specs.Option.{IsSomeAnd, option_map, option_map_or}
-use Rattle.std.proofs.lemmas.Bool.{and_parts, false≢true, le-leb, le-ltb, lt-leb, lt-ltb, ltb-false, ltb-true, true≢false}
+use Rattle.std.proofs.lemmas.Bool.{and_parts, false≢true, le-leb, le-ltb, lt-leb, lt-ltb, ltb-false, ltb-true, not-true, true≢false}
 use Rattle.std.proofs.lemmas.Bool.Decides.{eqb_tells}
 use Rattle.std.proofs.lemmas.List.{append-nil, append_assoc}
 use Rattle.bus_link.specs.declared.link.Cause.{Cause}
@@ -23,7 +23,7 @@ use Rattle.cq_engine.specs.Event.{Closes, Does, Gives, MovesBlock, Takes, read_i
 use Rattle.cq_engine.specs.Outcome.{Outcome, host_of, outcome_of}
 use Rattle.cq_engine.specs.declared.did.Did.{Did}
 use Rattle.cq_engine.specs.declared.did.Did.TheVariants.{Finished, Moved, Stopped}
-use Rattle.cq_engine.proofs.Places.{length-remembered, set-same}
+use Rattle.cq_engine.proofs.Places.{length-remembered, of-some, set-same}
 use Rattle.cq_chain.specs.declared.pieces.Piece.{Piece}
 use Rattle.cq_regs.specs.Slots.{progress_of, without}
 use Rattle.cq_regs.specs.State.{Registers}
@@ -356,3 +356,96 @@ module _ (state : RawState) (old new : Moment) (did : Did) (m : IsMoving state o
     by_taken value answer after (failed h card) next behind o memory less =
         over (by_broken Flash less h behind memory (o ∙ ap (λ a. after_close (host_of held m.start.regs) m.slot m.task.desc (seen a)) (word_as true (sym m.direction ∙ read))))
     by_taken value answer after (dark h card) next behind o memory less = over (by_broken PowerLost less h behind memory o)
+
+  -- the write is kept at the end, in the card's words and in a script's
+  same_keeps : keeps_write old.machine.card phase ≡ keeps m.start.card m.queued m.k
+  same_keeps =
+      ap (λ (card : PlainCard). must_keep (card_of card) (phase_of m.queued) && (phase.moved == m.queued.task.blocks)) (sym m.tells.card)
+      ∙ ap (λ b. must_keep (card_of m.start.card) (phase_of m.queued) && b) (least m.k m.queued.task.blocks)
+
+  contents_at_end : (b : Bool) → keeps m.start.card m.queued m.k ≡ b
+      → contents_after m.start.card m.start.memory m.task.pieces m.queued m.k (Ok tt) m.start.card.contents
+      ≡ cond m.queued.task.read m.start.card.contents
+      ((cond b (kept (is_named m.queued.start m.queued.task.blocks)) same) (with_marks (marks_of m.start.memory m.task.pieces m.queued m.k) m.start.card.contents))
+  contents_at_end b e =
+      ap (λ (keep : Bool). cond m.queued.task.read m.start.card.contents
+      ((cond keep (kept (is_named m.queued.start m.queued.task.blocks)) same) (with_marks (marks_of m.start.memory m.task.pieces m.queued m.k) m.start.card.contents))) e
+
+  -- what is kept is a write
+  is_write : keeps_write old.machine.card phase ≡ true → m.queued.task.read ≡ false
+  is_write e =
+      let must = (and_parts (must_keep old.machine.card phase) (phase.moved == m.queued.task.blocks) e).0 in
+      not-true m.queued.task.read
+      (and_parts (not m.queued.task.read) (m.queued.task.forced || (m.queued.task.reliable || not old.machine.card.csd.cache)) must).0
+
+  whole : m.k ≡ m.task.desc.blocks → HasMoved m.task m.queued (keeps m.start.card m.queued m.k) m.k (Ok tt)
+  whole e = record { within = m.within; whole = e; failed = tt }
+
+  unkept : (end : StoreEnd) → m.k ≡ m.task.desc.blocks → keeps m.start.card m.queued m.k ≡ true
+      → HasMoved m.task m.queued (keeps m.start.card m.queued m.k) m.k (Err end)
+  unkept end e k = record { within = m.within; whole = tt; failed = inr (e, k) }
+
+  by_closed : (answer : Result ℕ LinkEnd) (after : Contents) → PhaseClosed phase (behind_of old) (behind_of new) c answer after
+      → Behinds new (record m.start.card { contents = after }) → outcome ≡ after_close (host_of held m.start.regs) m.slot m.task.desc answer
+      → new.machine.memory ≡ (moving_state m.start m.task m.queued m.k).memory → m.k ≡ m.task.desc.blocks → IsDone state did new
+  by_closed answer after (closed_only unkeeping card array) behind o memory all =
+      let B : Contents → Type 0 = λ x. Behinds new (record m.start.card { contents = x }) in
+      by_end_of m.k (Ok tt) (whole all) o (sym memory) (subst B (sym (contents_at_end false (sym same_keeps ∙ unkeeping))) behind)
+      (led_end m.start.regs m.slot m.task.desc (seen (phase_answer m.task.desc.read (Ok tt))))
+  by_closed answer after (write_kept keeping card) behind o memory all =
+      let B : Contents → Type 0 = λ x. Behinds new (record m.start.card { contents = x }) in
+      let write = is_write keeping in
+      let named = kept (is_named m.queued.start m.queued.task.blocks) in
+      let e : named c ≡ contents_after m.start.card m.start.memory m.task.pieces m.queued m.k (Ok tt) m.start.card.contents =
+      ap named (c_is write) ∙ ap (λ b. cond b m.start.card.contents (named (with_marks (marks_of m.start.memory m.task.pieces m.queued m.k) m.start.card.contents))) (sym write)
+      ∙ sym (contents_at_end true (sym same_keeps ∙ keeping)) in
+      by_end_of m.k (Ok tt) (whole all) o (sym memory) (subst B e behind)
+      (led_end m.start.regs m.slot m.task.desc (seen (phase_answer m.task.desc.read (Ok tt))))
+  by_closed answer after (write_failed keeping card) behind o memory all =
+      by_end_of m.k (Err Flash) (unkept Flash all (sym same_keeps ∙ keeping))
+      (o ∙ ap (λ a. after_close (host_of held m.start.regs) m.slot m.task.desc (seen a)) (word_as false (sym m.direction ∙ is_write keeping))) (sym memory) behind
+      (led_end m.start.regs m.slot m.task.desc (seen (phase_answer m.task.desc.read (Err Flash))))
+  by_closed answer after (write_dark keeping card) behind o memory all =
+      by_end_of m.k (Err PowerLost) (unkept PowerLost all (sym same_keeps ∙ keeping)) o (sym memory) behind
+      (led_end m.start.regs m.slot m.task.desc (seen (phase_answer m.task.desc.read (Err PowerLost))))
+
+  -- the card's phase is told by the old moment
+  by_direction : (read : Bool) → m.task.desc.read ≡ read → m.k < m.task.desc.blocks
+      → MatchBool read
+      (Takes CardMade (behind_of old) (behind_of new) m.task.pieces m.k (moving_state m.start m.task m.queued m.k).memory new.machine.memory outcome
+      (after_block (host_of held m.start.regs) m.slot m.task.desc))
+      (Gives CardMade (behind_of old) (behind_of new) block outcome (after_block (host_of held m.start.regs) m.slot m.task.desc)
+      × (new.machine.memory ≡ (moving_state m.start m.task m.queued m.k).memory)) → Onward state did new
+  by_direction true e less t =
+      let x : TakesOne t.block phase (behind_of old) (behind_of new) c t.answer =
+      taken t.block phase (behind_of old) (behind_of new) c t.answer m.tells.script m.tells.contents m.tells.told m.phase (m.direction ∙ e) t.crossed in
+      by_taken (m.direction ∙ e) t.block t.answer x.moves.after x.moves.block_moved x.is_next
+      (behind_with x.moves.after x.moves.others x.moves.stands x.moves.told x.moves.script) t.outcome t.written less
+  by_direction false e less g =
+      let x : MovesOne ERROR phase (behind_of old) (behind_of new) c (with_put (next_put phase block)) g.0.answer =
+      given block phase (behind_of old) (behind_of new) c g.0.answer m.tells.script m.tells.contents m.phase (m.direction ∙ e) g.0.crossed in
+      by_given (m.direction ∙ e) g.0.answer x.after x.block_moved (behind_with x.after x.others x.stands x.told x.script) g.0.outcome g.1 less
+
+  abbrev DoesSo : Due → Type 0
+  DoesSo due = Does CardMade (behind_of old) (behind_of new) (host_of held m.start.regs) (moving_state m.start m.task m.queued m.k).memory new.machine.memory outcome due
+
+  by_due : (more : Bool) → nat_lt m.k m.task.desc.blocks ≡ more → DoesSo (cond more (NextBlock m.slot m.k) (Close m.slot)) → Onward state did new
+  by_due true e d =
+      by_direction m.task.desc.read refl (ltb-true m.k m.task.desc.blocks e)
+      (of-some (held_at held m.slot) (record { task = m.task; progress = Active; moved = m.k })
+      (λ h. MovesBlock CardMade (behind_of old) (behind_of new) (host_of held m.start.regs) (moving_state m.start m.task m.queued m.k).memory new.machine.memory
+      m.slot m.k outcome h.task) held_now d)
+  by_due false e d =
+      let k : Closes CardMade (behind_of old) (behind_of new) outcome (after_close (host_of held m.start.regs) m.slot m.task.desc) =
+      of-some (held_at held m.slot) (record { task = m.task; progress = Active; moved = m.k })
+      (λ h. Closes CardMade (behind_of old) (behind_of new) outcome (after_close (host_of held m.start.regs) m.slot h.task.desc)) held_now d.0 in
+      let x : ClosesPhase phase (behind_of old) (behind_of new) c k.answer =
+      phase_closes phase (behind_of old) (behind_of new) c k.answer m.tells.script m.tells.contents m.phase k.crossed in
+      let most : m.task.desc.blocks ≤ m.k = ltb-false m.k m.task.desc.blocks e in
+      let within : m.k ≤ m.task.desc.blocks = m.within in
+      over (by_closed k.answer x.after x.phase_closed (behind_with x.after x.others x.stands x.told x.script) k.outcome d.1 (omega arith))
+
+pub step_moving : (state : RawState) (old new : Moment) (did : Did) → IsMoving state old → Happens old did new → Onward state did new
+step_moving state old new did m e =
+    let f = facts (moving_state m.start m.task m.queued m.k) old new did m.tells e in
+    by_due state old new did m f (nat_lt m.k m.task.desc.blocks) refl (subst (DoesSo state old new did m f) (is_due state old new did m f) f.does)
