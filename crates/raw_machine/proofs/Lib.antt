@@ -9,4 +9,5 @@ pub mod Naming
 pub mod Phases
 pub mod NextDue
 pub mod Stages
+pub mod WholeTasks
 pub mod WorkLeft

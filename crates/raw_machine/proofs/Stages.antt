@@ -3,7 +3,7 @@ use Rattle.std.proofs.Common.{◌≡◌, ◌≢◌, ◌<◌, ◌≤◌, ◌+◌,
 use Rattle.std.specs.Prelude.{Result, Ok, Err, Option, if◌then◌else◌, is_some, min, slice_get}
 use Rattle.std.specs.List.{All}
 use Rattle.array_edge.specs.Array.{ArrayState}
-use Rattle.bus_link.specs.Link.{Call}
+use Rattle.bus_link.specs.Link.{Call, is_poll}
 use Rattle.bus_link.specs.Link.Call.{Exchanged}
 use Rattle.bus_link.specs.declared.link.LinkEnd.{LinkEnd}
 use Rattle.card_core.specs.Response.{task_to_execute}
@@ -232,5 +232,5 @@ pub record IsDone (state : RawState) (did : Did) (new : Moment) : Type 0 where
 -- what an event leaves that begins between tasks
 pub data Stage (state : RawState) (did : Did) (new : Moment) : Type 0 where
   done : IsDone state did new → Stage state did new
-  naming : {command : Command} → did ≡ SentCommand command → IsNaming state new → Stage state did new
-  moving : {command : Command} → did ≡ SentCommand command → IsMoving state new → Stage state did new
+  naming : {command : Command} → did ≡ SentCommand command → is_poll command ≡ false → IsNaming state new → Stage state did new
+  moving : {command : Command} → did ≡ SentCommand command → is_poll command ≡ false → IsMoving state new → Stage state did new
