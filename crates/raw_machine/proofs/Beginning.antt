@@ -1,38 +1,33 @@
 -- An event of the engine that begins between tasks.
-use Rattle.std.proofs.Common.{◌≡◌, ◌≢◌, ◌<◌, ◌≤◌, ◌==◌, ℕ, Bool, true, false, cond, refl, sym, ◌∙◌, ap, subst, arith}
-use Rattle.std.specs.Prelude.{List, [], Option, Some, None, Result, Ok, Err, min, slice_get, slice_set}
+use Rattle.std.proofs.Common.{◌≡◌, ◌≢◌, ◌<◌, ℕ, Bool, true, false, cond, refl, sym, ◌∙◌, ap, subst, arith}
+use Rattle.std.specs.Prelude.{[], Option, Some, None, Result, Ok, Err, slice_get, slice_set}
 use Rattle.std.specs.Option.{IsSomeAnd}
 use Rattle.std.proofs.lemmas.Bool.{true≢false}
-use Rattle.bus_link.specs.Link.{is_poll}
-use Rattle.bus_link.specs.Link.Call.{Exchanged}
 use Rattle.bus_link.specs.declared.link.Cause.{Cause}
 use Rattle.bus_link.specs.declared.link.LinkEnd.{LinkEnd}
 use Rattle.card_core.specs.declared.ends.Dark.{Dark}
-use Rattle.card_link.specs.Behind.{Behind}
 use Rattle.card_link.specs.Made.{CardMade, Exchanges as Crosses}
-use Rattle.card_store.specs.Store.{Contents, Stands as StoreStands}
 use Rattle.cmd_words.specs.Command.{index_of}
 use Rattle.cmd_words.specs.declared.command.Command.{Command}
-use Rattle.cmd_words.specs.declared.command.Command.TheVariants.{Execute as ExecuteTask}
 use Rattle.cq_desc.specs.declared.direct.DirectDesc.{DirectDesc}
 use Rattle.cq_desc.specs.declared.task.TaskDesc.{TaskDesc}
 use Rattle.card_core.specs.Response.{task_to_execute}
 use Rattle.task_queue.specs.declared.queue.Queued.{Queued}
 use Rattle.std.proofs.lemmas.List.{append-nil}
 use Rattle.cq_engine.specs.After.{after_direct, after_execute, after_params, after_poll, executed, named}
-use Rattle.cq_engine.specs.Event.{Does, Exchanges, IsServed, Serves as ServedAs, Silent}
+use Rattle.cq_engine.specs.Event.{Does, Exchanges, Serves as ServedAs, Silent}
 use Rattle.cq_engine.specs.Outcome.{Host, Outcome, host_of, outcome_of, responded}
 use Rattle.cq_engine.specs.Words.{direct_of, execute_of, has_error, params_of, poll_of}
 use Rattle.cq_engine.specs.declared.did.Did.{Did}
 use Rattle.cq_engine.specs.declared.did.Did.TheVariants.{Direct as DirectDone, Dropped, Finished, Idle, Sent as SentCommand, Stopped}
-use Rattle.cq_engine.proofs.Places.{length-remembered, set-same}
+use Rattle.cq_engine.proofs.Places.{length-remembered}
 use Rattle.cq_engine.proofs.SlotLaws.{completes, ticks}
 use Rattle.cq_regs.specs.Effects.{completed, moved_on, ticked_in}
 use Rattle.cq_regs.specs.Slots.{advanced, next, progress_of, without}
 use Rattle.cq_regs.specs.State.{Registers}
 use Rattle.cq_regs.specs.declared.slots.Progress.{Progress}
-use Rattle.cq_regs.specs.declared.slots.Progress.TheVariants.{Active, Named, Ready, Rung}
-use Rattle.cq_schedule.specs.Held.{Places, held_at, left_at, newly_held, none_held, noted, remembered}
+use Rattle.cq_regs.specs.declared.slots.Progress.TheVariants.{Active, Ready, Rung}
+use Rattle.cq_schedule.specs.Held.{Places, held_at, left_at, newly_held, remembered}
 use Rattle.cq_schedule.specs.Holding.{is_begun}
 use Rattle.cq_schedule.specs.Meaning.{HasItsSlot, IsDue, list_of, rests}
 use Rattle.cq_schedule.specs.declared.held.HeldTask.{HeldTask}
@@ -49,19 +44,19 @@ use Rattle.raw_machine.proofs.Answered.{HasBegun, begun}
 use Rattle.raw_machine.specs.Machine.{Moment, behind_of}
 use Rattle.raw_machine.specs.Running.{Happens}
 use Rattle.raw_machine.specs.State.{PlainCard, RawState, places_of, turned, with_registers, with_task}
-use Rattle.raw_machine.specs.Tasks.{Acts, Moves, Sends, ServesAs, Works}
+use Rattle.raw_machine.specs.Tasks.{Acts, Moves, Sends}
 use Rattle.raw_machine.specs.Tasks.Gives.{stops as stops_first}
 use Rattle.raw_machine.specs.Tasks.Moves.{refused}
-use Rattle.raw_machine.specs.Telling.{IsBetweenTasks, Keeps, Tells, plain}
+use Rattle.raw_machine.specs.Telling.{IsBetweenTasks, Tells, plain}
 use Rattle.raw_machine.proofs.Kept.{AllRung, Has, between_ended, between_readied, between_same, between_without, has_advanced, has_finished, has_idle, has_named, has_readied, has_same, keeps_has, noted_at, others_advanced, rung_advanced, rung_readied, rung_without}
 use Rattle.raw_machine.proofs.Leading.{Led, LedDirect, LedPoll, led, led_direct, led_poll}
 use Rattle.raw_machine.proofs.Leading.Led.{stops, goes}
 use Rattle.raw_machine.proofs.Leading.LedDirect.{stops as direct_stops, done as direct_done}
 use Rattle.raw_machine.proofs.Leading.LedPoll.{stops as poll_stops, polls}
-use Rattle.raw_machine.proofs.Naming.{Facts, IsLed, done_by, facts, led_so, running, rung_same, rung_told}
+use Rattle.raw_machine.proofs.Naming.{Facts, done_by, facts, led_so, running, rung_same, rung_told}
 use Rattle.raw_machine.proofs.NextDue.{IsBetweenDue, due_told, executed_at, not_under_way, order_advanced, rest_is_due, rests_due, served_at}
 use Rattle.raw_machine.proofs.NextDue.IsBetweenDue.{rest, tick, poll, serve, execute}
-use Rattle.raw_machine.proofs.Stages.{moving_state, phase_at, Behinds, IsDone, IsMoving, IsNaming, IsSent, Leaves, Stage, behinds, behinds_same, leaves_as, partly, partly_from, sends, sent_so, sent_state, tells_from}
+use Rattle.raw_machine.proofs.Stages.{moving_state, phase_at, Behinds, IsDone, IsSent, Stage, behinds, behinds_same, leaves_as, partly, partly_from, sent_so, sent_state, tells_from}
 use Rattle.raw_machine.proofs.Stages.Stage.{done, moving, naming}
 use Rattle.raw_machine.proofs.WorkLeft.{advanced-same}
 

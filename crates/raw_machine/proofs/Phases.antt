@@ -1,22 +1,18 @@
 -- A block of a data phase, and its end.
-use Rattle.std.proofs.Common.{◌≡◌, ◌≢◌, ◌<◌, ◌≤◌, ◌+◌, ◌==◌, ◌&&◌, ◌⊎◌, ℕ, suc, Bool, true, false, cond, refl, sym, ◌∙◌, ap, subst, arith, inl, inr}
+use Rattle.std.proofs.Common.{◌≡◌, ◌<◌, ◌≤◌, ◌+◌, ◌==◌, ◌&&◌, ℕ, suc, Bool, true, false, cond, refl, sym, ◌∙◌, ap, subst, arith, inl, inr}
 use Rattle.std.specs.Prelude.{◌||◌, ◌++◌, OnOk, length, replicate, is_some, not, nat_le, nat_lt, List, [], ◌∷◌, Option, Some, None, Result, Ok, Err, min, slice_set}
 use Rattle.std.specs.Bool.{MatchBool}
 use Rattle.std.specs.Option.{IsSomeAnd, option_map, option_map_or}
-use Rattle.std.proofs.lemmas.Bool.{and_parts, false≢true, le-leb, le-ltb, lt-leb, lt-ltb, ltb-false, ltb-true, not-true, true≢false}
+use Rattle.std.proofs.lemmas.Bool.{and_parts, le-leb, le-ltb, lt-leb, lt-ltb, ltb-false, ltb-true, not-true, true≢false}
 use Rattle.std.proofs.lemmas.Bool.Decides.{eqb_tells}
 use Rattle.std.proofs.lemmas.List.{append-nil, append_assoc}
-use Rattle.bus_link.specs.declared.link.Cause.{Cause}
 use Rattle.bus_link.specs.declared.link.LinkEnd.{LinkEnd}
-use Rattle.bus_link.specs.declared.link.LinkEnd.TheVariants as link_end
 use Rattle.card_core.specs.Card.{CardState}
 use Rattle.card_core.specs.Moving.{must_keep, next_put}
-use Rattle.card_core.specs.Serving.{End, by_end, without_error, word_of}
-use Rattle.card_core.specs.declared.ends.Dark.{Dark}
+use Rattle.card_core.specs.Serving.{End}
 use Rattle.card_core.specs.declared.phase.DataPhase.{DataPhase}
 use Rattle.card_link.specs.Made.{CardMade}
 use Rattle.card_store.specs.Store.{Contents, Stands as StoreStands, kept, same, with_put}
-use Rattle.cmd_words.specs.declared.status.Status.{Status as ErrorSet}
 use Rattle.cmd_words.specs.declared.status.TheConstants.Status.{DEVICE_ECC_FAILED, ERROR}
 use Rattle.cq_engine.specs.After.{after_block, after_close}
 use Rattle.cq_engine.specs.Event.{Closes, Does, Gives, MovesBlock, Takes, read_into as engine_read}
@@ -61,7 +57,7 @@ use Rattle.raw_machine.proofs.Leading.{LedEnd, led_end}
 use Rattle.raw_machine.proofs.Leading.LedEnd.{stops, ends}
 use Rattle.raw_machine.proofs.Naming.{Facts, done_by, facts, running, rung_same, rung_told}
 use Rattle.raw_machine.proofs.NextDue.{phase_due}
-use Rattle.raw_machine.proofs.Stages.{Behinds, IsDone, IsMoving, Leaves, contents_moving, leaves_as, moving_state, partly_from, phase_at, sent_state, tells_from}
+use Rattle.raw_machine.proofs.Stages.{Behinds, IsDone, IsMoving, contents_moving, leaves_as, moving_state, partly_from, phase_at, tells_from}
 use Rattle.raw_machine.proofs.WorkLeft.{remembered-at}
 
 -- what an event of a data phase leaves: one block more moved, or the task is done

@@ -1,11 +1,11 @@
 -- A run of the engine event by event is a run task by task.
-use Rattle.std.proofs.Common.{◌≡◌, ◌≢◌, ◌⊎◌, List, [], ◌∷◌, Bool, true, false, refl, sym, ◌∙◌, ap, subst, inl, inr}
+use Rattle.std.proofs.Common.{◌≡◌, ◌≢◌, ◌⊎◌, List, [], ◌∷◌, true, false, refl, sym, ◌∙◌, ap, subst, inl, inr}
 use Rattle.std.specs.Prelude.{◌++◌, ◌||◌, not}
 use Rattle.std.proofs.lemmas.Bool.{true≢false}
 use Rattle.bus_link.specs.Link.{is_poll}
 use Rattle.cmd_words.specs.declared.command.Command.{Command}
 use Rattle.cq_engine.specs.declared.did.Did.{Did}
-use Rattle.cq_engine.specs.declared.did.Did.TheVariants.{Moved, Sent as SentCommand}
+use Rattle.cq_engine.specs.declared.did.Did.TheVariants.{Sent as SentCommand}
 use Rattle.cq_regs.specs.State.{Registers}
 use Rattle.raw_lines.specs.declared.raw_line.RawLine.{RawLine}
 use Rattle.raw_machine.specs.Machine.{Moment}
