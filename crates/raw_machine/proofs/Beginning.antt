@@ -1,38 +1,33 @@
 -- An event of the engine that begins between tasks.
-use Rattle.std.proofs.Common.{◌≡◌, ◌≢◌, ◌<◌, ◌≤◌, ◌==◌, ℕ, Bool, true, false, cond, refl, sym, ◌∙◌, ap, subst, arith}
-use Rattle.std.specs.Prelude.{List, [], Option, Some, None, Result, Ok, Err, min, slice_get, slice_set}
+use Rattle.std.proofs.Common.{◌≡◌, ◌≢◌, ◌<◌, ℕ, Bool, true, false, cond, refl, sym, ◌∙◌, ap, subst, arith}
+use Rattle.std.specs.Prelude.{[], Option, Some, None, Result, Ok, Err, slice_get, slice_set}
 use Rattle.std.specs.Option.{IsSomeAnd}
 use Rattle.std.proofs.lemmas.Bool.{true≢false}
-use Rattle.bus_link.specs.Link.{is_poll}
-use Rattle.bus_link.specs.Link.Call.{Exchanged}
 use Rattle.bus_link.specs.declared.link.Cause.{Cause}
 use Rattle.bus_link.specs.declared.link.LinkEnd.{LinkEnd}
 use Rattle.card_core.specs.declared.ends.Dark.{Dark}
-use Rattle.card_link.specs.Behind.{Behind}
 use Rattle.card_link.specs.Made.{CardMade, Exchanges as Crosses}
-use Rattle.card_store.specs.Store.{Contents, Stands as StoreStands}
 use Rattle.cmd_words.specs.Command.{index_of}
 use Rattle.cmd_words.specs.declared.command.Command.{Command}
-use Rattle.cmd_words.specs.declared.command.Command.TheVariants.{Execute as ExecuteTask}
 use Rattle.cq_desc.specs.declared.direct.DirectDesc.{DirectDesc}
 use Rattle.cq_desc.specs.declared.task.TaskDesc.{TaskDesc}
 use Rattle.card_core.specs.Response.{task_to_execute}
 use Rattle.task_queue.specs.declared.queue.Queued.{Queued}
 use Rattle.std.proofs.lemmas.List.{append-nil}
 use Rattle.cq_engine.specs.After.{after_direct, after_execute, after_params, after_poll, executed, named}
-use Rattle.cq_engine.specs.Event.{Does, Exchanges, IsServed, Serves as ServedAs, Silent}
+use Rattle.cq_engine.specs.Event.{Does, Exchanges, Serves as ServedAs, Silent}
 use Rattle.cq_engine.specs.Outcome.{Host, Outcome, host_of, outcome_of, responded}
 use Rattle.cq_engine.specs.Words.{direct_of, execute_of, has_error, params_of, poll_of}
 use Rattle.cq_engine.specs.declared.did.Did.{Did}
 use Rattle.cq_engine.specs.declared.did.Did.TheVariants.{Direct as DirectDone, Dropped, Finished, Idle, Sent as SentCommand, Stopped}
-use Rattle.cq_engine.proofs.Places.{length-remembered, set-same}
+use Rattle.cq_engine.proofs.Places.{length-remembered}
 use Rattle.cq_engine.proofs.SlotLaws.{completes, ticks}
 use Rattle.cq_regs.specs.Effects.{completed, moved_on, ticked_in}
 use Rattle.cq_regs.specs.Slots.{advanced, next, progress_of, without}
 use Rattle.cq_regs.specs.State.{Registers}
 use Rattle.cq_regs.specs.declared.slots.Progress.{Progress}
-use Rattle.cq_regs.specs.declared.slots.Progress.TheVariants.{Active, Named, Ready, Rung}
-use Rattle.cq_schedule.specs.Held.{Places, held_at, left_at, newly_held, none_held, noted, remembered}
+use Rattle.cq_regs.specs.declared.slots.Progress.TheVariants.{Active, Ready, Rung}
+use Rattle.cq_schedule.specs.Held.{Places, held_at, left_at, newly_held, remembered}
 use Rattle.cq_schedule.specs.Holding.{is_begun}
 use Rattle.cq_schedule.specs.Meaning.{HasItsSlot, IsDue, list_of, rests}
 use Rattle.cq_schedule.specs.declared.held.HeldTask.{HeldTask}
@@ -49,21 +44,35 @@ use Rattle.raw_machine.proofs.Answered.{HasBegun, begun}
 use Rattle.raw_machine.specs.Machine.{Moment, behind_of}
 use Rattle.raw_machine.specs.Running.{Happens}
 use Rattle.raw_machine.specs.State.{PlainCard, RawState, places_of, turned, with_registers, with_task}
-use Rattle.raw_machine.specs.Tasks.{Acts, Moves, Sends, ServesAs, Works}
+use Rattle.raw_machine.specs.Tasks.{Acts, Moves, Sends}
 use Rattle.raw_machine.specs.Tasks.Gives.{stops as stops_first}
 use Rattle.raw_machine.specs.Tasks.Moves.{refused}
-use Rattle.raw_machine.specs.Telling.{IsBetweenTasks, Keeps, Tells, plain}
+use Rattle.raw_machine.specs.Telling.{IsBetweenTasks, Tells, plain}
 use Rattle.raw_machine.proofs.Kept.{AllRung, Has, between_ended, between_readied, between_same, between_without, has_advanced, has_finished, has_idle, has_named, has_readied, has_same, keeps_has, noted_at, others_advanced, rung_advanced, rung_readied, rung_without}
 use Rattle.raw_machine.proofs.Leading.{Led, LedDirect, LedPoll, led, led_direct, led_poll}
 use Rattle.raw_machine.proofs.Leading.Led.{stops, goes}
 use Rattle.raw_machine.proofs.Leading.LedDirect.{stops as direct_stops, done as direct_done}
 use Rattle.raw_machine.proofs.Leading.LedPoll.{stops as poll_stops, polls}
-use Rattle.raw_machine.proofs.Naming.{Facts, IsLed, done_by, facts, led_so, running, rung_same, rung_told}
+use Rattle.raw_machine.proofs.Naming.{Facts, done_by, facts, led_so, running, rung_same, rung_told}
 use Rattle.raw_machine.proofs.NextDue.{IsBetweenDue, due_told, executed_at, not_under_way, order_advanced, rest_is_due, rests_due, served_at}
 use Rattle.raw_machine.proofs.NextDue.IsBetweenDue.{rest, tick, poll, serve, execute}
-use Rattle.raw_machine.proofs.Stages.{moving_state, phase_at, Behinds, IsDone, IsMoving, IsNaming, IsSent, Leaves, Stage, behinds, behinds_same, leaves_as, partly, partly_from, sends, sent_so, sent_state, tells_from}
+use Rattle.raw_machine.proofs.Stages.{moving_state, phase_at, Behinds, IsDone, IsSent, Stage, behinds, behinds_same, leaves_as, partly, partly_from, sent_so, sent_state, tells_from}
 use Rattle.raw_machine.proofs.Stages.Stage.{done, moving, naming}
 use Rattle.raw_machine.proofs.WorkLeft.{advanced-same}
+
+-- a place with what is said of it twice
+record Found (place : Option HeldTask) (P Q : HeldTask → Type 0) : Type 0 where
+  pub task : HeldTask
+  pub at : place ≡ Some task
+  pub first : P task
+  pub second : Q task
+
+found : (place : Option HeldTask) (P Q : HeldTask → Type 0) → IsSomeAnd place P → IsSomeAnd place Q → Found place P Q
+found None P Q p q = absurd p
+found (Some h) P Q p q = record { task = h; at = refl; first = p; second = q }
+
+ready_still : (progress : Progress) → progress ≡ Ready → progress ≢ Active
+ready_still progress e x = cc (e, x)
 
 -- no block of the data phase moved yet
 moving_none : (start : RawState) (task : DataTask) (queued : Queued) → moving_state start task queued 0 ≡ start
@@ -193,7 +202,7 @@ module _ (state : RawState) (old new : Moment) (did : Did) (t : Tells old state)
         let l = led_so (params_of slot task.desc) (λ h. after_params h slot task) state old new did d f.left held holds left f.leaves s e in
         let then = sent_state state left (plain new.machine.card s.contents) in
         let at = served_at held state.regs state.memory slot i in
-        naming l.is (record {
+        naming l.is refl (record {
           slot = slot;
           task = task;
           below = is.0;
@@ -283,7 +292,7 @@ module _ (state : RawState) (old new : Moment) (did : Did) (t : Tells old state)
           let T : PlainCard → Type 0 = λ c. task_to_execute (card_of c) desc.read slot ≡ Some b.queued in
           let z = moving_none start h.task b.queued in
           let H : Progress → Option HeldTask → Type 0 = λ p o. left_at p o ≡ Some (record { task = h.task; progress = Active; moved = 0 }) in
-          moving l.is (record {
+          moving l.is refl (record {
             slot = slot;
             task = h.task;
             queued = b.queued;
@@ -323,3 +332,38 @@ module _ (state : RawState) (old new : Moment) (did : Did) (t : Tells old state)
           done (sent_stopped cause left (execute_of slot desc) (λ g. after_execute g slot desc) s e stopped ring (Execute slot) i
           (λ sends. acts_so (Stopped cause) (sent_state state left (plain new.machine.card s.contents)) (refused sends (λ command x. cc x))) memory)
       by_execute s (goes word answered e) = by_word s word (has_error word) answered e refl
+
+    -- whatever is due between tasks
+    by_due : (due : Due) → IsBetweenDue due → IsDue held state.regs state.memory due → HasItsSlot held state.regs due
+        → Does CardMade (behind_of old) (behind_of new) (host_of held state.regs) state.memory new.machine.memory outcome due → Stage state did new
+    by_due due rest i slot d = done (silently Idle state.regs Rest (is_told Rest i) (refl, refl) d.0 d.1 rung has between)
+    by_due due tick i slot d = done (ticked i d)
+    by_due due poll i slot d =
+        let x = sent_so (poll_of state.regs) after_poll old new state.card state.regs held outcome (behinds old state (partly old state t)) d.0 in
+        done (by_poll i d.1 x (led_poll state.regs x.answer))
+    by_due due (serve slot) i is d = by_meaning slot d.0.meaning is i d.0.means d.0.serves d.1
+    by_due due (execute slot) i is d =
+        let k = f.keeps on slot is.below (ap is_begun is.is_at) in
+        let E : HeldTask → Type 0 = λ h. Exchanges CardMade (behind_of old) (behind_of new) (execute_of slot h.task.desc) outcome
+        (after_execute (host_of held state.regs) slot h.task.desc) in
+        let b = found (held_at held slot)
+        (λ h. (h.progress ≡ progress_of state.regs.ring slot) × (state.tasks slot ≡ Some h.task) × (progress_of state.regs.ring slot ≢ Active → h.moved ≡ 0)) E k d.0 in
+        let x = sent_so (execute_of slot b.task.task.desc) (λ g. after_execute g slot b.task.task.desc) old new state.card state.regs held outcome
+        (behinds old state (partly old state t)) b.second in
+        by_execute slot b.task is.below is.is_at b.at b.first.1 (b.first.2 (ready_still (progress_of state.regs.ring slot) is.is_at)) i d.1 x
+        (led state.regs (execute_of slot b.task.task.desc) slot x.answer (executed slot b.task.task.desc))
+
+-- an event that begins between tasks
+pub step_between : (state : RawState) (old new : Moment) (did : Did) → Tells old state → Happens old did new → Stage state did new
+step_between state old new did t e = by_rests (rests state.regs) refl where
+  f : Facts state old new did
+  f = facts state old new did (partly old state t) e
+
+  by_rests : (resting : Bool) → rests state.regs ≡ resting → Stage state did new
+  by_rests true r =
+      let D : Due → Type 0 = λ due. Does CardMade (behind_of old) (behind_of new) (host_of (remembered old.machine.engine.held state.regs) state.regs) state.memory new.machine.memory
+      (outcome_of did f.left.held f.left.regs) due in
+      done (rested state old new did t f r (subst D (rests_due (remembered old.machine.engine.held state.regs) state.regs state.memory f.due r f.is_due) f.does))
+  by_rests false r =
+      by_due state old new did t f r f.due
+      (not_under_way (remembered old.machine.engine.held state.regs) state.regs state.memory f.due (between state old new did t f (running state.regs r)) f.is_due) f.is_due f.slot f.does

@@ -1,6 +1,6 @@
 -- What the answer of a command leads to doesn't hang on the tasks that are held.
-use Rattle.std.proofs.Common.{◌≡◌, ◌==◌, ◌&&◌, ℕ, Bool, true, false, cond, not, refl, sym, ◌∙◌, ap}
-use Rattle.std.specs.Prelude.{Result, Ok, Err, List, Some, None, slice_set}
+use Rattle.std.proofs.Common.{◌≡◌, ◌==◌, ◌&&◌, ℕ, Bool, true, false, cond, not, refl, ◌∙◌, ap}
+use Rattle.std.specs.Prelude.{Result, Ok, Err, Some, None, slice_set}
 use Rattle.bus_link.specs.Link.{is_poll}
 use Rattle.bus_link.specs.declared.link.Cause.{Cause}
 use Rattle.bus_link.specs.declared.link.Cause.TheVariants.{Dark as NoPower, Response}
@@ -10,10 +10,9 @@ use Rattle.cmd_words.specs.Command.{index_of}
 use Rattle.cmd_words.specs.declared.command.Command.{Command}
 use Rattle.cq_desc.specs.declared.direct.DirectDesc.{DirectDesc}
 use Rattle.cq_desc.specs.declared.task.TaskDesc.{TaskDesc}
-use Rattle.cq_engine.specs.After.{after_close, after_command, after_direct, after_poll, direct_ended, direct_heard, finished, led_on, phase_ended, polled}
-use Rattle.cq_engine.specs.Outcome.{Host, Outcome, heard, host_of, judged, outcome_of, responded, stop, stopped_with, with_regs, word_in}
+use Rattle.cq_engine.specs.After.{after_close, after_command, after_direct, after_poll, direct_heard, led_on, phase_ended}
+use Rattle.cq_engine.specs.Outcome.{Host, Outcome, heard, host_of, judged, outcome_of, responded, stop, stopped_with, word_in}
 use Rattle.cq_engine.specs.Words.{command_error, data_error, direct_of, execute_of, is_masked, poll_of}
-use Rattle.cq_engine.specs.declared.did.Did.{Did}
 use Rattle.cq_engine.specs.declared.did.Did.TheVariants.{Direct, Finished, Sent as SentCommand, Stopped}
 use Rattle.cq_engine.proofs.SlotLaws.{completes}
 use Rattle.cq_regs.specs.Effects.{completed}

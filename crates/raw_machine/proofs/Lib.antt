@@ -6,6 +6,8 @@ pub mod Kept
 pub mod Leading
 pub mod Mapped
 pub mod Naming
+pub mod Phases
 pub mod NextDue
 pub mod Stages
+pub mod WholeTasks
 pub mod WorkLeft

@@ -1,6 +1,6 @@
 -- The second half of a task's way to the card: its start sector.
-use Rattle.std.proofs.Common.{◌≡◌, ◌≢◌, ◌<◌, ◌==◌, ℕ, Bool, true, false, cond, refl, sym, ◌∙◌, ap, subst, inl, inr}
-use Rattle.std.specs.Prelude.{◌||◌, not, List, Option, Some, None, Result, Ok, Err, length, slice_get}
+use Rattle.std.proofs.Common.{◌≡◌, ◌≢◌, ◌==◌, ℕ, Bool, true, false, cond, refl, sym, ◌∙◌, ap, subst, inl, inr}
+use Rattle.std.specs.Prelude.{◌||◌, not, List, Option, Some, None, Result, Ok}
 use Rattle.std.specs.Option.{IsSomeAnd}
 use Rattle.std.proofs.lemmas.Bool.{eq-eqb, true≢false}
 use Rattle.std.proofs.lemmas.Bool.Decides.{eqb_tells}
@@ -15,14 +15,13 @@ use Rattle.cq_engine.specs.Outcome.{Holding, Host, Outcome, host_of, outcome_of,
 use Rattle.raw_machine.specs.Answering.{seen}
 use Rattle.cq_engine.specs.declared.did.Did.{Did}
 use Rattle.cq_engine.specs.declared.did.Did.TheVariants.{Sent as SentCommand, Stopped}
-use Rattle.cq_engine.proofs.Places.{length-remembered}
 use Rattle.cq_regs.specs.Effects.{moved_on}
 use Rattle.cq_regs.specs.Slots.{has_bit, progress_of}
 use Rattle.cq_regs.specs.State.{Registers}
 use Rattle.cq_regs.specs.declared.slots.Progress.{Progress}
 use Rattle.cq_regs.specs.declared.slots.Ringed.{Ringed}
 use Rattle.cq_regs.specs.declared.slots.Progress.TheVariants.{Active, Named}
-use Rattle.cq_schedule.specs.Held.{Places, held_at, none_held, remembered}
+use Rattle.cq_schedule.specs.Held.{Places, held_at, remembered}
 use Rattle.cq_schedule.specs.Holding.{is_begun}
 use Rattle.cq_schedule.specs.Meaning.{HasItsSlot, IsDue, rests}
 use Rattle.cq_schedule.specs.declared.held.HeldTask.{HeldTask}
@@ -41,7 +40,7 @@ use Rattle.raw_machine.proofs.Leading.{Led, led}
 use Rattle.raw_machine.proofs.Leading.Led.{stops, goes}
 use Rattle.raw_machine.proofs.Kept.{AllRung, Has, between_sent, has_advanced, keeps_has, keeps_remembered, rung_advanced}
 use Rattle.raw_machine.proofs.NextDue.{address_due}
-use Rattle.raw_machine.proofs.Stages.{Behinds, IsDone, IsNaming, IsSent, Leaves, Partly, behinds, leaves_as, sends, sent_so, sent_state, tells_from}
+use Rattle.raw_machine.proofs.Stages.{IsDone, IsNaming, IsSent, Leaves, Partly, behinds, leaves_as, sends, sent_so, sent_state, tells_from}
 
 -- an event of a moment that a state tells, in the state's words
 pub record Facts (state : RawState) (old new : Moment) (did : Did) : Type 0 where
@@ -148,10 +147,12 @@ module _ (state : RawState) (old new : Moment) (did : Did) (n : IsNaming state o
   crosses =
       let D : Due → Type 0 = λ d. Does CardMade (behind_of old) (behind_of new) (host_of held n.between.regs) n.between.memory new.machine.memory
       (outcome_of did f.left.held f.left.regs) d in
-      let d = subst D is_address f.does in
-      (same_task (held_at held n.slot) (λ h. Crosses h.task) (progress_of n.between.regs.ring n.slot) (told.tasks n.slot) n.task Crosses (λ h x. x)
-        (with_task-same n.slot n.task (n.between.tasks n.slot))
-        (f.keeps (running n.between.regs n.runs) n.slot n.below (named_begun (progress_of n.between.regs.ring n.slot) n.named)) d.0, d.1)
+      let d = subst D is_address f.does in (
+        same_task (held_at held n.slot) (λ h. Crosses h.task) (progress_of n.between.regs.ring n.slot) (told.tasks n.slot) n.task Crosses (λ h x. x)
+            (with_task-same n.slot n.task (n.between.tasks n.slot))
+            (f.keeps (running n.between.regs n.runs) n.slot n.below (named_begun (progress_of n.between.regs.ring n.slot) n.named)) d.0,
+        d.1,
+      )
 
   abbrev Sent : Type 0
   Sent = IsSent (StartSector n.task.desc.start) (λ h. after_address h n.slot n.task.desc) told.card n.between.regs held old new (outcome_of did f.left.held f.left.regs)

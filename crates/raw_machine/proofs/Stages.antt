@@ -1,9 +1,8 @@
 -- What an event of the engine leaves, told by what a script can tell: between tasks, or while one is under way.
-use Rattle.std.proofs.Common.{◌≡◌, ◌≢◌, ◌<◌, ◌≤◌, ◌+◌, ℕ, List, Bool, true, false, Some, None, refl, sym, ◌∙◌, ap, subst}
-use Rattle.std.specs.Prelude.{Result, Ok, Err, Option, if◌then◌else◌, is_some, min, slice_get}
+use Rattle.std.proofs.Common.{◌≡◌, ◌≢◌, ◌<◌, ◌≤◌, ℕ, true, false, Some, refl, sym, ◌∙◌, ap, subst}
+use Rattle.std.specs.Prelude.{Result, Ok, if◌then◌else◌, is_some, min, slice_get}
 use Rattle.std.specs.List.{All}
-use Rattle.array_edge.specs.Array.{ArrayState}
-use Rattle.bus_link.specs.Link.{Call}
+use Rattle.bus_link.specs.Link.{is_poll}
 use Rattle.bus_link.specs.Link.Call.{Exchanged}
 use Rattle.bus_link.specs.declared.link.LinkEnd.{LinkEnd}
 use Rattle.card_core.specs.Response.{task_to_execute}
@@ -13,7 +12,6 @@ use Rattle.card_link.specs.Behind.{Behind}
 use Rattle.card_link.specs.Made.{CardMade}
 use Rattle.card_store.specs.Store.{Contents, Stands as StoreStands}
 use Rattle.cmd_words.specs.declared.command.Command.{Command}
-use Rattle.cmd_words.specs.declared.command.Command.TheVariants.{Address as StartSector}
 use Rattle.cq_engine.specs.After.{after_execute, after_params}
 use Rattle.cq_engine.specs.Event.{Exchanges}
 use Rattle.cq_engine.specs.Outcome.{Host, Outcome, host_of, outcome_of}
@@ -23,7 +21,7 @@ use Rattle.cq_engine.specs.declared.did.Did.TheVariants.{Sent as SentCommand}
 use Rattle.cq_regs.specs.Slots.{is_rung, progress_of}
 use Rattle.cq_regs.specs.State.{Registers}
 use Rattle.cq_regs.specs.declared.slots.Progress.TheVariants.{Active, Named}
-use Rattle.cq_schedule.specs.Held.{Places, held_at, none_held, noted, remembered}
+use Rattle.cq_schedule.specs.Held.{Places, held_at, none_held, noted}
 use Rattle.cq_schedule.specs.Meaning.{IsDue, list_of, rests}
 use Rattle.cq_schedule.specs.Order.{order_of}
 use Rattle.cq_schedule.specs.declared.rules.Due.TheVariants.{Execute, Serve}
@@ -35,7 +33,7 @@ use Rattle.raw_machine.specs.Answering.{Answers, card_of, seen}
 use Rattle.raw_machine.specs.Machine.{Moment, behind_of}
 use Rattle.raw_machine.specs.Moving.{marks_of, memory_after, with_marks}
 use Rattle.raw_machine.specs.State.{PlainCard, RawState, places_of, turned, with_task}
-use Rattle.raw_machine.specs.Tasks.{Sends, Works, host}
+use Rattle.raw_machine.specs.Tasks.{Sends, Works}
 use Rattle.raw_machine.specs.Telling.{IsBetweenTasks, IsQuietScript, Keeps, Tells, plain}
 use Rattle.raw_machine.proofs.Answered.{IsExchanged, exchanged}
 use Rattle.raw_machine.proofs.Kept.{Has, has_noted}
@@ -232,5 +230,5 @@ pub record IsDone (state : RawState) (did : Did) (new : Moment) : Type 0 where
 -- what an event leaves that begins between tasks
 pub data Stage (state : RawState) (did : Did) (new : Moment) : Type 0 where
   done : IsDone state did new → Stage state did new
-  naming : {command : Command} → did ≡ SentCommand command → IsNaming state new → Stage state did new
-  moving : {command : Command} → did ≡ SentCommand command → IsMoving state new → Stage state did new
+  naming : {command : Command} → did ≡ SentCommand command → is_poll command ≡ false → IsNaming state new → Stage state did new
+  moving : {command : Command} → did ≡ SentCommand command → is_poll command ≡ false → IsMoving state new → Stage state did new

@@ -1,8 +1,7 @@
 -- The engine over the card, task by task (host interface annex of JESD84-B51): a slot that is served has its task given to the card by CMD44 and
 -- CMD45, a ready task moves all its blocks at once, and a poll makes tasks ready.
-use Rattle.std.specs.Prelude.{◌≡◌, ◌≢◌, ℕ, ◌==◌, false, true, List, [], ◌∷◌, ◌++◌, Option, Some, Result, Ok, Err}
+use Rattle.std.specs.Prelude.{◌≡◌, ◌≢◌, ℕ, false, true, List, [], ◌++◌, Some, Result, Ok, Err}
 use Rattle.std.specs.Option.{IsSomeAnd}
-use Rattle.bus_link.specs.declared.link.Cause.{Cause}
 use Rattle.bus_link.specs.declared.link.LinkEnd.{LinkEnd}
 use Rattle.card_core.specs.Response.{task_to_execute}
 use Rattle.card_core.specs.Serving.{End}
