@@ -10,7 +10,7 @@ use Rattle.card_store.specs.Store.{Contents, Stands as StoreStands, Store, secto
 use Rattle.card_store.proofs.Reading.{read_shown}
 use Rattle.card_store.proofs.Turning.{lines_left}
 use Rattle.cq_regs.specs.Slots.{is_rung}
-use Rattle.epoch_cache.specs.Cache.{Cache}
+use Rattle.epoch_cache.specs.Cache.{Cache, newest_of}
 use Rattle.epoch_cache.specs.declared.line.Line.{Line}
 use Rattle.ext_csd.specs.Values.{fresh}
 use Rattle.intent_store.specs.Intent.{shown_by}
@@ -62,9 +62,9 @@ empty_shown m state t none =
 -- only after a flush that went well does a script end well
 flushed_well : (end : Result (Unit {0}) StoreEnd) (output : Output) (P : Type 0) (done : Unit {0}) → output ≡ flush_output end → Ok done ≡ halt_of output.end
     → OnOk end P → P
-flushed_well (Ok ok) output P done is halts h = h
-flushed_well (Err Flash) output P done is halts h = absurd (cc (halts ∙ ap (λ (o : Output). halt_of o.end) is))
-flushed_well (Err PowerLost) output P done is halts h = absurd (cc (halts ∙ ap (λ (o : Output). halt_of o.end) is))
+flushed_well (Ok ok) output P done is well h = h
+flushed_well (Err Flash) output P done is well h = absurd (cc (well ∙ ap (λ (o : Output). halt_of o.end) is))
+flushed_well (Err PowerLost) output P done is well h = absurd (cc (well ∙ ap (λ (o : Output). halt_of o.end) is))
 
 module _ {K : Type 0} (took : K → List ℕ → K → Type 0) where
   finished_well : (old new : Moment) (out out' : K) (result : Result (Unit {0}) Halt) (state : RawState) → Finishes took old out result new out' → Tells new state

@@ -4,7 +4,6 @@ use Rattle.std.specs.Option.{option_map_or}
 use Rattle.std.proofs.lemmas.Bool.{false≢true}
 use Rattle.array_edge.specs.Array.{ArrayState}
 use Rattle.card_core.specs.Card.{CardState, sectors}
-use Rattle.raw_machine.proofs.WholeTasks.{RunsTold, run_told}
 use Rattle.raw_machine.specs.Answering.{Answers}
 use Rattle.card_store.specs.Store.{Contents, IsSameStore, Stands as StoreStands, Turns}
 use Rattle.card_store.proofs.Turning.{ok_also}
@@ -31,12 +30,12 @@ use Rattle.raw_face.specs.Running.{Runs, output_after}
 use Rattle.raw_face.specs.Sector.{HasFlushed, HasShown, IsOutside, TurnsStore, flushed}
 use Rattle.raw_lines.specs.declared.raw_line.RawLine.{RawLine}
 use Rattle.raw_lines.specs.declared.raw_line.RawLine.TheVariants.{Outside}
-use Rattle.raw_machine.specs.Machine.{Machine, Moment, Stands, moment}
-use Rattle.raw_machine.specs.Running.{GoesOn, Happens, Step, end_after, goes_on, lines_of, steps_lines}
-use Rattle.raw_machine.specs.Tasks.{Works, WorksOn}
+use Rattle.raw_machine.specs.Machine.{Machine, Moment, moment}
+use Rattle.raw_machine.specs.Running.{end_after, goes_on, lines_of, steps_lines}
 use Rattle.raw_machine.specs.State.{PlainCard, RawState, turned, with_registers}
 use Rattle.raw_machine.specs.Telling.{Tells, plain}
 use Rattle.raw_machine.proofs.Answered.{IsAnswered, answered}
+use Rattle.raw_machine.proofs.WholeTasks.{RunsTold, run_told}
 use Rattle.raw_text.specs.declared.op.RawOp.{RawOp}
 use Rattle.raw_text.specs.declared.op.RawOp.TheVariants.{Poke, Fill, Peek, Write, Read, Go, Show, Discard}
 use Rattle.storage_model.specs.Contents.{contents_now, sector_at}
@@ -268,9 +267,9 @@ over_or_printed (Err OpenFault) did regs over printed = inl (over (λ e. cc e))
 over_or_printed (Err PowerGone) did regs over printed = inl (over (λ e. cc e))
 over_or_printed (Err BadImage) did regs over printed = inl (over (λ e. cc e))
 
-pub go_by_task : (old new : Moment) (result : Result (Unit {0}) Halt) (output : Output) → Stands old.machine old.array → Runs old result output new
+pub go_by_task : (old new : Moment) (result : Result (Unit {0}) Halt) (output : Output) → Runs old result output new
     → (state : RawState) → Tells old state → Reaches Go state result output new
-go_by_task old new result output stands runs state t =
+go_by_task old new result output runs state t =
     let told : RunsTold state (steps_lines runs.steps) runs.last new =
     run_told old runs.between new runs.steps runs.last state t runs.before runs.event
     (over_or_printed result runs.last new.machine.regs runs.over runs.printed) in

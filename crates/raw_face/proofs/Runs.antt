@@ -25,7 +25,7 @@ use Rattle.storage_model.specs.declared.ends.Halt.{Halt}
 use Rattle.storage_model.specs.declared.ends.Halt.TheVariants.{SinkFailed, OpenFault, PowerGone, BadImage}
 use Rattle.storage_model.specs.declared.trace.End.{End}
 use Rattle.storage_model.specs.declared.trace.End.TheVariants.{Fault, Dead}
-use Rattle.raw_machine.specs.Machine.{Moment, Stands, behind_of}
+use Rattle.raw_machine.specs.Machine.{Moment, behind_of}
 use Rattle.raw_face.specs.Operation.{Does}
 use Rattle.raw_face.specs.Output.{HasCauses, Output, Shows, halt_of, lines_text, output_text, nothing, shown, tells_fault}
 use Rattle.raw_face.specs.Running.{Runs, output_after}
@@ -270,11 +270,11 @@ module _ {K : Type 0} (took : K → List ℕ → K → Type 0) where
   -- the last event
   pub run_over : Joins took → (old between new : Moment) (sink mid sink' : K) (did : Did) (result : Result (Unit {0}) Halt) → HasRun old sink between mid
       → Follows between mid did result new sink' → (result ≢ Err SinkFailed → goes_on did new.machine.regs ≡ false)
-      → (result ≡ Err SinkFailed → output_after did ≢ nothing) → Stands old.machine old.array → Does took Go old sink result new sink'
-  run_over both old between new sink mid sink' did result run f over printed stands = record {
+      → (result ≡ Err SinkFailed → output_after did ≢ nothing) → Does took Go old sink result new sink'
+  run_over both old between new sink mid sink' did result run f over printed = record {
     output = after (steps_lines run.steps) (output_after did);
     makes = runs;
-    by_task = go_by_task old new result (after (steps_lines run.steps) (output_after did)) stands runs;
+    by_task = go_by_task old new result (after (steps_lines run.steps) (output_after did)) runs;
     shows = shown_after took both sink mid sink' (steps_lines run.steps) (output_after did) result run.taken f.shows;
     causes = causes_both old.array between.array new.array (steps_lines run.steps) (output_after did) run.quiet run.causes f.causes;
   } where

@@ -21,7 +21,7 @@ returns-in-Ok g c = λ text before after means. inr (inr (record {
   end = c.play.new.raw;
   result = c.play.result;
   plays = c.play.ensures.plays;
-  told = script_told g.K.Sink.took c.args.script.now.raw c.boot.new.self _ _ c.args.script.now.ops _ _ _ _ c.requires.off (c.in-Ok.ensures.on (inl refl)) (c.in-Ok.ensures.contents (inl refl))
+  told = script_told g.K.Sink.took c.args.script.now.raw c.boot.new.self (g.A.Array.state c.args.array.now) (g.A.Array.state c.boot.new.array) c.args.script.now.ops _ _ _ _ c.requires.off (c.in-Ok.ensures.on (inl refl)) (c.in-Ok.ensures.contents (inl refl))
       (ap (λ (cache : Cache). cache.last) (c.in-Ok.ensures.empty (inl refl))) c.in-Ok.ensures.shown c.play.ensures.plays;
   is = c.status_of.ensures;
   cause = cause_then _ _ _ _ _ _ _ (booted _ _ _ _ c.in-Ok.ensures.ends.faults c.in-Ok.ensures.ends.cuts c.in-Ok.ensures.sink.later) c.play.ensures.cause;

@@ -22,7 +22,7 @@ returns-in_err-print_reply-clause-does g c =
     (run_over g.K.Sink.took both old between new c.args.out.now c.loop-raw.out c.print_reply.new.out c.event-did.result (failed c.in_err-print_reply.field-0.0)
     c.loop-raw.invariant.run f
     (over_by g.K.Sink.took c.loop-raw.out c.print_reply.new.out c.event-did.result c.event-did.new.self.regs c.in_err-print_reply.field-0.0 f.shows)
-    (printed_after c.event-did.result (output_of c.reply_of.result) (failed c.in_err-print_reply.field-0.0) c.reply_of.ensures c.in_err-print_reply.ensures.failed) c.requires.stands)
+    (printed_after c.event-did.result (output_of c.reply_of.result) (failed c.in_err-print_reply.field-0.0) c.reply_of.ensures c.in_err-print_reply.ensures.failed))
 
 pub returns-then-not-goes_on-clause-does : goal.returns-then-not-goes_on-clause-does
 returns-then-not-goes_on-clause-does g c =
@@ -33,7 +33,7 @@ returns-then-not-goes_on-clause-does g c =
     run_over g.K.Sink.took both old between new c.args.out.now c.loop-raw.out c.print_reply.new.out c.event-did.result (Ok tt) c.loop-raw.invariant.run
     (follows g.K.Sink.took between new c.loop-raw.out c.print_reply.new.out c.event-did.result (Ok tt) (output_of c.reply_of.result)
     c.event-did.ensures.happens c.reply_of.ensures c.in_ok-print_reply.ensures.shows c.event-did.ensures.ends c.loop-raw.invariant.stands.powered)
-    (λ apart. sym c.if-not-goes_on.ensures.value) (λ ok. absurd (cc ok)) c.requires.stands
+    (λ apart. sym c.if-not-goes_on.ensures.value) (λ ok. absurd (cc ok))
 
 pub loop-raw-smaller : goal.loop-raw-smaller
 loop-raw-smaller g c =
