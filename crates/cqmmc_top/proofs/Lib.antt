@@ -7,6 +7,7 @@ pub mod Names
 pub mod Playing
 pub mod Printing
 pub mod Ranges
+pub mod RawFaults
 pub mod Reading
 pub mod Running
 pub mod ScriptRead

@@ -142,9 +142,17 @@ shows_cause took a b old new out out' output (Err BadImage) causes shows none si
   image = λ is. none (image_end output.end shows.1);
 }
 
--- no operation finds that the pages are no image
-no_image : (output : Output) → output.end ≡ None → output.end ≡ Some Image → ⊥
-no_image output none is = cc
+-- an operation ends the script only where the power was cut
+abbrev pub IsOpEnd : Option End → Type 0
+IsOpEnd end = (end ≡ None) ⊎ (end ≡ Some Dead)
+
+pub no_image : (end : Option End) → IsOpEnd end → end ≡ Some Image → ⊥
+no_image end (inl none) is = cc
+no_image end (inr dead) is = cc
+
+pub no_fault : (end : Option End) → IsOpEnd end → end ≡ Some Fault → ⊥
+no_fault end (inl none) is = cc
+no_fault end (inr dead) is = cc
 
 mapped_end : {A : Type 0} (read : Option A) (x y : Output) → x.end ≡ None → y.end ≡ None → (option_map_or (λ row. x) read y).end ≡ None
 mapped_end None x y here there = there
@@ -153,60 +161,63 @@ mapped_end (Some row) x y here there = here
 written_end : (reg : ℕ) → (write_output reg).end ≡ None
 written_end reg = mapped_end (row_at reg) nothing (one (NoRegister reg)) refl refl
 
-after_no_image : (did : Did) → end_after did ≡ Some Image → ⊥
-after_no_image Idle is = cc
-after_no_image (Sent command) is = cc
-after_no_image (Direct slot) is = cc
-after_no_image (Moved slot) is = cc
-after_no_image (Finished slot) is = cc
-after_no_image (Dropped slot why) is = cc
-after_no_image (Stopped (Bus kind slot)) is = cc
-after_no_image (Stopped (Response word slot)) is = cc
-after_no_image (Stopped Dark) is = cc
+event_end : (did : Did) → IsOpEnd (end_after did)
+event_end Idle = inl refl
+event_end (Sent command) = inl refl
+event_end (Direct slot) = inl refl
+event_end (Moved slot) = inl refl
+event_end (Finished slot) = inl refl
+event_end (Dropped slot why) = inl refl
+event_end (Stopped (Bus kind slot)) = inl refl
+event_end (Stopped (Response word slot)) = inl refl
+event_end (Stopped Dark) = inr refl
 
-shown_no_image : (value : Block) (end : Result (Unit {0}) StoreEnd) → (sector_output value end).end ≡ Some Image → ⊥
-shown_no_image value (Ok done) is = cc
-shown_no_image value (Err Flash) is = cc
-shown_no_image value (Err PowerLost) is = cc
+shown_end : (value : Block) (end : Result (Unit {0}) StoreEnd) → IsOpEnd (sector_output value end).end
+shown_end value (Ok done) = inl refl
+shown_end value (Err Flash) = inl refl
+shown_end value (Err PowerLost) = inr refl
 
 flushed_no_image : (end : Result (Unit {0}) StoreEnd) → (flush_output end).end ≡ Some Image → ⊥
 flushed_no_image (Ok done) is = cc
 flushed_no_image (Err Flash) is = cc
 flushed_no_image (Err PowerLost) is = cc
 
-discarded_no_image : (answer : Result ℕ NoPower) → (discard_output answer).end ≡ Some Image → ⊥
-discarded_no_image (Ok word) is = cc
-discarded_no_image (Err dark) is = cc
+discarded_end : (answer : Result ℕ NoPower) → IsOpEnd (discard_output answer).end
+discarded_end (Ok word) = inl refl
+discarded_end (Err dark) = inr refl
 
-either_no_image : (inside : Bool) {P Q : Type 0} (R : Type 0) → MatchBool inside P Q → (P → R) → (Q → R) → R
-either_no_image true R is here there = here is
-either_no_image false R is here there = there is
+either_way : (inside : Bool) {P Q : Type 0} (R : Type 0) → MatchBool inside P Q → (P → R) → (Q → R) → R
+either_way true R is here there = here is
+either_way false R is here there = there is
 
-makes_no_image : (op : RawOp) (old new : Moment) (result : Result (Unit {0}) Halt) (output : Output) → Makes op old result output new → output.end ≡ Some Image → ⊥
-makes_no_image (Poke address bytes) old new result output makes = no_image output (elim makes.memory [
+as_end : (output other : Output) → output ≡ other → IsOpEnd other.end → IsOpEnd output.end
+as_end output other e is = let P : Output → Type 0 = λ o. IsOpEnd o.end in subst P (sym e) is
+
+pub makes_end : (op : RawOp) (old new : Moment) (result : Result (Unit {0}) Halt) (output : Output) → Makes op old result output new → IsOpEnd output.end
+makes_end (Poke address bytes) old new result output makes = inl (elim makes.memory [
   | inl inside ↦ ap (λ (o : Output). o.end) inside.1.1
   | inr outside ↦ ap (λ (o : Output). o.end) outside.1.1
 ])
-makes_no_image (Fill address count value) old new result output makes = no_image output (elim makes.memory [
+makes_end (Fill address count value) old new result output makes = inl (elim makes.memory [
   | inl inside ↦ ap (λ (o : Output). o.end) inside.1.1
   | inr outside ↦ ap (λ (o : Output). o.end) outside.1.1
 ])
-makes_no_image (Peek address count) old new result output makes = no_image output (elim makes.memory [
+makes_end (Peek address count) old new result output makes = inl (elim makes.memory [
   | inl inside ↦ ap (λ (o : Output). o.end) inside.1
   | inr outside ↦ ap (λ (o : Output). o.end) outside.1
 ])
-makes_no_image (Write reg value) old new result output makes = no_image output (ap (λ (o : Output). o.end) makes.shown ∙ written_end reg)
-makes_no_image (Read reg) old new result output makes = no_image output (ap (λ (o : Output). o.end) makes.shown)
-makes_no_image Go old new result output makes = λ is. after_no_image makes.last (sym (ap (λ (o : Output). o.end) makes.shown) ∙ is)
-makes_no_image (Show sector) old new result output makes = λ is.
-    either_no_image _ ⊥ makes.card
-    (λ (shown : HasShown sector old.machine.card old.array output new.machine.card new.array). shown_no_image shown.value shown.end (sym (ap (λ (o : Output). o.end) shown.shown) ∙ is))
-    (λ (outside : IsOutside old.machine.card old.array output new.machine.card new.array). no_image output (ap (λ (o : Output). o.end) outside.shown) is)
-makes_no_image Discard old new result output makes = λ is. discarded_no_image makes.card.answer (sym (ap (λ (o : Output). o.end) makes.card.shown) ∙ is)
+makes_end (Write reg value) old new result output makes = inl (ap (λ (o : Output). o.end) makes.shown ∙ written_end reg)
+makes_end (Read reg) old new result output makes = inl (ap (λ (o : Output). o.end) makes.shown)
+makes_end Go old new result output makes = as_end output _ makes.shown (event_end makes.last)
+makes_end (Show sector) old new result output makes =
+    either_way _ (IsOpEnd output.end) makes.card
+    (λ (shown : HasShown sector old.machine.card old.array output new.machine.card new.array). as_end output _ shown.shown (shown_end shown.value shown.end))
+    (λ (outside : IsOutside old.machine.card old.array output new.machine.card new.array). inl (ap (λ (o : Output). o.end) outside.shown))
+makes_end Discard old new result output makes = as_end output _ makes.card.shown (discarded_end makes.card.answer)
 
 module _ {K : Type 0} (took : K → List ℕ → K → Type 0) (old new : Moment) (out out' : K) (a b : Count) (result : Result (Unit {0}) Halt) where
   pub does_cause : (op : RawOp) → Does took op old out result new out' → IsSinkCause a b result → HasCause a b old.array new.array result
-  does_cause op does sink = shows_cause took a b old.array new.array out out' does.output result does.causes does.shows (makes_no_image op old new result does.output does.makes) sink
+  does_cause op does sink = shows_cause took a b old.array new.array out out' does.output result does.causes does.shows (no_image does.output.end (makes_end op old new result does.output does.makes)) sink
 
   pub finishes_cause : Finishes took old out result new out' → IsSinkCause a b result → HasCause a b old.array new.array result
   finishes_cause does sink =

@@ -1,7 +1,9 @@
 -- A raw script: its operations one after the other, over a machine that was switched on.
-use Rattle.std.specs.Prelude.{◌≡◌, ◌⊎◌, ℕ, List, [], ◌∷◌, Option, Some, IfSome, Result, Ok, Err}
+use Rattle.std.specs.Prelude.{◌≡◌, ◌⊎◌, ◌≤◌, ◌+◌, ℕ, count_by, true, List, [], ◌∷◌, Option, Some, IfSome, Result, Ok, Err}
 use Rattle.storage_model.specs.Count.{Count, Later, Rose}
 use Rattle.storage_model.specs.declared.ends.Halt.{Halt}
+use Rattle.storage_model.specs.declared.trace.End.{End}
+use Rattle.storage_model.specs.declared.trace.End.TheVariants.{Fault}
 use Rattle.storage_model.specs.declared.trace.Item.TheVariants.{Card}
 use Rattle.array_edge.specs.Array.{ArrayState}
 use Rattle.card_core.specs.Card.{sectors}
@@ -11,6 +13,7 @@ use Rattle.io_edge.specs.Sink.{TookPart}
 use Rattle.raw_face.specs.Booting.{switched_on}
 use Rattle.raw_machine.specs.Machine.{Machine, Moment, moment, switched_off}
 use Rattle.raw_face.specs.Operation.{Does, Finishes}
+use Rattle.raw_face.specs.Output.{Output, tells_fault}
 use Rattle.raw_text.specs.declared.op.RawOp.{RawOp}
 use Rattle.trace_text.specs.Trace.{item_text}
 use Rattle.cqmmc_top.specs.Opened.{HasSectors, OpeningRefused}
@@ -52,6 +55,26 @@ module _ {K : Type 0} (took : K → List ℕ → K → Type 0) where
     halts : {op : RawOp} {ops : List RawOp} {old new : Moment} {out out' : K} {halt : Halt} → Does took op old out (Err halt) new out' → Plays (op ∷ ops) old out (Err halt) new out'
     finishes : {old new : Moment} {out out' : K} {result : Result (Unit {0}) Halt} → Finishes took old out result new out' → Plays [] old out result new out'
 
+-- whether the line of the end tells of a fault
+abbrev pub end_faults : Option End → ℕ
+end_faults (Some Fault) = 1
+end_faults _ = 0
+
+-- the lines of an output that tell of a fault: a sector that couldn't be read, a response with bit 19 or 21, and `off fault`
+abbrev pub output_faults : Output → ℕ
+output_faults output = count_by tells_fault output.lines + end_faults output.end
+
+module _ {K : Type 0} (took : K → List ℕ → K → Type 0) where
+  -- those of a script that was carried out
+  abbrev pub script_faults : {ops : List RawOp} {old new : Moment} {out out' : K} {result : Result (Unit {0}) Halt} → Plays took ops old out result new out' → ℕ
+  script_faults (goes_on does plays) = output_faults does.output + script_faults plays
+  script_faults (halts does) = output_faults does.output
+  script_faults (finishes ends) = output_faults ends.output
+
+-- a count rose by so much at least, or stands at its last value
+abbrev pub RoseBy : ℕ → Count → Count → Type 0
+RoseBy n old new = (old.value + n ≤ new.value) ⊎ (new.stands ≡ true)
+
 module _ {K : Type 0} (took : K → List ℕ → K → Type 0) (faults_of : K → Count) where
   -- a script wasn't begun: by a cause, and the image shows what it showed, and is one just where it was one
   pub record IsRefusedScript (script : Option (List ℕ)) (first first' : Count) (old new : ArrayState) (out : K) (status : ℕ) (out' : K) : Type 0 where
@@ -77,7 +100,8 @@ module _ {K : Type 0} (took : K → List ℕ → K → Type 0) (faults_of : K �
     pub was_image : ShowsImage new → ShowsImage old
 
   -- The operations were carried out one after the other, from a machine switched on. The status says how that ended. Where the array tells
-  -- its pages, the same is told task by task, over the contents that it showed.
+  -- its pages, the same is told task by task, over the contents that it showed. The lines that tell of a fault are together no more than the
+  -- faults of the array.
   pub record IsPlayed (script : Option (List ℕ)) (old new : ArrayState) (out : K) (status : ℕ) (out' : K) : Type 0 where
     pub ops : List RawOp
     pub means : IsScriptOf script ops
@@ -89,6 +113,7 @@ module _ {K : Type 0} (took : K → List ℕ → K → Type 0) (faults_of : K �
     pub result : Result (Unit {0}) Halt
     pub plays : Plays took ops begin middle result (moment end new) out'
     pub told : IfSome (shown_by old) (λ base. IsTold took base ops middle result (moment end new) out')
+    pub faults : RoseBy (script_faults took plays) old.faults new.faults
     pub is : status ≡ run_status result
     pub cause : HasCause (faults_of out) (faults_of out') old new result
 
