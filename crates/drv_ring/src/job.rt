@@ -23,9 +23,9 @@ use host_mem::HostMem;
 use storage_model::{Fill, Job, Plan};
 
 impl Layout {
-    /// Writes a job to the places of its tag: the slot, the table where it moves data, and the buffer where it is a write.
-    /// The slot asks for the job then, and every other tag has what it had. `int` says whether its completion interrupts at
-    /// once. It takes no memory.
+    /// Writes a job to the places of its tag: the slot, the table where it moves data, and the buffer where it is a write
+    /// (`cqhci_request` of the Linux driver, up to the doorbell; JESD84-B51, annex B). The slot asks for the job then, and
+    /// every other tag has what it had. `int` says whether its completion interrupts at once. It takes no memory.
     pub fn write_job(&self, mem: &mut HostMem, tag: u8, job: &Job, plan: &Plan, int: bool)
         requires layout { HasLayout mem.old self.now }
         requires tag { IsTagOf self.now tag job.now }
@@ -77,7 +77,7 @@ impl Layout {
         self.write_data_task(mem, tag, desc);
     }
 
-    /// Writes the descriptors of a data task.
+    /// Writes the descriptors of a data task (`cqhci_prep_task_desc`, `cqhci_prep_tran_desc`).
     fn write_data_task(&self, mem: &mut HostMem, tag: u8, desc: &TaskDesc)
         requires layout { HasLayout mem.old self.now }
         requires tag { tag < self.now.depth }
@@ -109,7 +109,7 @@ impl Layout {
         write_descriptor(mem, slot + self.descriptor_size(), &link, self.wide);
     }
 
-    /// Writes the slot of a direct command, with nothing in its second half.
+    /// Writes the slot of a direct command, with nothing in its second half (`cqhci_prep_dcmd_desc`).
     fn write_direct_task(&self, mem: &mut HostMem, tag: u8, desc: &DirectDesc)
         requires layout { HasLayout mem.old self.now }
         requires tag { tag < SLOTS }
