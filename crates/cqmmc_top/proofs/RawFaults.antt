@@ -2,6 +2,8 @@
 use Rattle.std.proofs.Common.{◌≡◌, ◌≤◌, ◌+◌, ◌⊎◌, ℕ, Bool, true, false, List, [], ◌∷◌, Option, Some, None, Result, Ok, Err, inl, inr, refl, sym, ◌∙◌, ap, subst, arith, cond}
 use Rattle.std.specs.Prelude.{◌||◌, count_by}
 use Rattle.std.specs.List.{list_any}
+use Rattle.std.proofs.lemmas.Bool.{or_parts}
+use Rattle.std.proofs.lemmas.List.Sums.{sum_by-append}
 use Rattle.raw_face.specs.Operation.{Does, Finishes}
 use Rattle.raw_face.specs.Output.{HasCauses, Output, tells_fault}
 use Rattle.raw_face.specs.Sector.{flush_output}
@@ -18,12 +20,16 @@ use Rattle.storage_model.specs.declared.trace.End.TheVariants.{Fault}
 use Rattle.cqmmc_top.specs.Raw.{Plays, RoseBy, end_faults, finishes, goes_on, halts, output_faults, script_faults}
 use Rattle.cqmmc_top.proofs.Playing.{IsOpEnd, makes_end, no_fault}
 
+counted_if : (tells : Bool) (lines : List RawLine) → count_by tells_fault lines ≡ 0 → tells ≡ false
+    → 0 + cond tells 1 0 + count_by tells_fault lines ≡ 0
+counted_if true lines rest e = absurd (cc e)
+counted_if false lines rest e = omega arith
+
 none_counted : (lines : List RawLine) → list_any tells_fault lines ≡ false → count_by tells_fault lines ≡ 0
 none_counted [] none = refl
-none_counted (line ∷ lines) none = counted_if (tells_fault line) none where
-  counted_if : (tells : Bool) → (tells || list_any tells_fault lines) ≡ false → cond tells 1 0 + count_by tells_fault lines ≡ 0
-  counted_if true e = absurd (cc e)
-  counted_if false e = let rest : count_by tells_fault lines ≡ 0 = none_counted lines e in omega arith
+none_counted (line ∷ lines) none =
+    let parts = or_parts (tells_fault line) (list_any tells_fault lines) none in
+    sum_by-append (λ (x : RawLine). cond (tells_fault x) 1 0) (line ∷ []) lines ∙ counted_if (tells_fault line) lines (none_counted lines parts.1) parts.0
 
 -- where a line tells of a fault the count rose
 rose_any : (n : ℕ) (old new : Count) → n ≤ 1 → Rose old new → RoseBy n old new
@@ -63,10 +69,6 @@ rose_both m n a b c later (inl one) (inl other) = inl (omega arith)
 rose_both m n a b c later (inl one) (inr stands) = inr stands
 rose_both m n a b c later (inr stands) other = inr (later.stands stands)
 
-pub later_rose : (n : ℕ) (a b c : Count) → Later a b → RoseBy n b c → RoseBy n a c
-later_rose n a b c later (inl one) = let value = later.value in inl (omega arith)
-later_rose n a b c later (inr stands) = inr stands
-
 both_later : (a b c : Count) → Later a b → Later b c → Later a c
 both_later a b c first next = record { value = omega (arith, first.value, next.value); stands = λ end. next.stands (first.stands end) }
 
@@ -83,6 +85,7 @@ module _ {K : Type 0} (took : K → List ℕ → K → Type 0) where
 
   pub plays_rose : {ops : List RawOp} {old new : Moment} {out out' : K} {result : Result (Unit {0}) Halt} → (plays : Plays took ops old out result new out')
       → RoseBy (script_faults took plays) old.array.faults new.array.faults
+  unfolding script_faults
   plays_rose {old = old} {new = new} {out = out} (goes_on {op = op} {between = between} {middle = middle} does plays) =
       rose_both (output_faults does.output) (script_faults took plays) old.array.faults between.array.faults new.array.faults (plays_later plays)
       (does_rose op old between out middle (Ok tt) does) (plays_rose plays)

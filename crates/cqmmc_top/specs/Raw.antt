@@ -66,7 +66,7 @@ output_faults output = count_by tells_fault output.lines + end_faults output.end
 
 module _ {K : Type 0} (took : K → List ℕ → K → Type 0) where
   -- those of a script that was carried out
-  abbrev pub script_faults : {ops : List RawOp} {old new : Moment} {out out' : K} {result : Result (Unit {0}) Halt} → Plays took ops old out result new out' → ℕ
+  unfoldable pub script_faults : {ops : List RawOp} {old new : Moment} {out out' : K} {result : Result (Unit {0}) Halt} → Plays took ops old out result new out' → ℕ
   script_faults (goes_on does plays) = output_faults does.output + script_faults plays
   script_faults (halts does) = output_faults does.output
   script_faults (finishes ends) = output_faults ends.output
@@ -74,6 +74,12 @@ module _ {K : Type 0} (took : K → List ℕ → K → Type 0) where
 -- a count rose by so much at least, or stands at its last value
 abbrev pub RoseBy : ℕ → Count → Count → Type 0
 RoseBy n old new = (old.value + n ≤ new.value) ⊎ (new.stands ≡ true)
+
+module _ {K : Type 0} (took : K → List ℕ → K → Type 0) where
+  -- A script was carried out, and its lines that tell of a fault are together no more than the faults of the array since it began.
+  pub record CarriesOut (ops : List RawOp) (old : Moment) (out : K) (result : Result (Unit {0}) Halt) (new : Moment) (out' : K) : Type 0 where
+    pub plays : Plays took ops old out result new out'
+    pub faults : RoseBy (script_faults took plays) old.array.faults new.array.faults
 
 module _ {K : Type 0} (took : K → List ℕ → K → Type 0) (faults_of : K → Count) where
   -- a script wasn't begun: by a cause, and the image shows what it showed, and is one just where it was one
@@ -111,9 +117,8 @@ module _ {K : Type 0} (took : K → List ℕ → K → Type 0) (faults_of : K �
     pub card : took out (card_text (sectors begin.machine.card)) middle
     pub end : Machine
     pub result : Result (Unit {0}) Halt
-    pub plays : Plays took ops begin middle result (moment end new) out'
+    pub plays : CarriesOut took ops begin middle result (moment end new) out'
     pub told : IfSome (shown_by old) (λ base. IsTold took base ops middle result (moment end new) out')
-    pub faults : RoseBy (script_faults took plays) old.faults new.faults
     pub is : status ≡ run_status result
     pub cause : HasCause (faults_of out) (faults_of out') old new result
 
