@@ -1,11 +1,11 @@
 -- What an operation makes of a machine, told by contents and marks.
-use Rattle.std.proofs.Common.{◌≡◌, ◌≢◌, ◌⊎◌, ℕ, ◌<◌, Bool, true, false, cond, List, [], ◌∷◌, ◌++◌, Option, None, Some, Result, Ok, Err, IfSome, OnOk, MatchBool, IsSomeAnd, is_some, option_map, unwrap_or, nat_lt, replicate, length, refl, sym, ◌∙◌, ap, subst, inl, inr}
+use Rattle.std.proofs.Common.{◌≡◌, ◌≢◌, ◌⊎◌, ℕ, Bool, true, false, List, [], ◌++◌, Option, None, Some, Result, Ok, Err, IfSome, MatchBool, IsSomeAnd, is_some, option_map, unwrap_or, nat_lt, replicate, length, refl, sym, ◌∙◌, ap, subst, inl, inr}
 use Rattle.std.specs.Option.{option_map_or}
 use Rattle.std.proofs.lemmas.Bool.{false≢true}
 use Rattle.array_edge.specs.Array.{ArrayState}
 use Rattle.card_core.specs.Card.{CardState, sectors}
 use Rattle.raw_machine.specs.Answering.{Answers}
-use Rattle.card_store.specs.Store.{Contents, IsSameStore, Stands as StoreStands, Turns}
+use Rattle.card_store.specs.Store.{Contents, Stands as StoreStands}
 use Rattle.card_store.proofs.Turning.{ok_also}
 use Rattle.cmd_words.specs.declared.command.Command.TheVariants.{Manage}
 use Rattle.cq_engine.proofs.Written.{IsCalm}
@@ -20,23 +20,20 @@ use Rattle.cq_regs.specs.declared.slots.Progress.TheVariants.{Active, Named}
 use Rattle.cq_schedule.specs.Held.{held_at}
 use Rattle.cq_schedule.specs.Holding.{is_begun}
 use Rattle.host_mem.specs.Memory.{Memory}
-use Rattle.intent_store.specs.Intent.{StoreEnds, shown_by}
-use Rattle.intent_store.specs.declared.ends.StoreEnd.{StoreEnd}
 use Rattle.raw_face.specs.Access.{IsPeekedIn, IsPokedIn, read_output}
-use Rattle.raw_face.specs.ByTask.{RawFlushes, RawPeeks, RawPokes, RawReads, RawRuns, RawSector, RawShows, RawWrites, Reaches, ReachesEnd}
+use Rattle.raw_face.specs.ByTask.{RawPokes, RawSector, Reaches, ReachesEnd}
 use Rattle.raw_face.specs.Operation.{Discards, IsPeeked, IsPoked, IsRead, IsWritten, ShowsSector, with_card, with_memory, with_regs}
 use Rattle.raw_face.specs.Output.{Output, nothing, one}
 use Rattle.raw_face.specs.Running.{Runs, output_after}
 use Rattle.raw_face.specs.Sector.{HasFlushed, HasShown, IsOutside, TurnsStore, flushed}
 use Rattle.raw_lines.specs.declared.raw_line.RawLine.{RawLine}
 use Rattle.raw_lines.specs.declared.raw_line.RawLine.TheVariants.{Outside}
-use Rattle.raw_machine.specs.Machine.{Machine, Moment, moment}
+use Rattle.raw_machine.specs.Machine.{Moment, moment}
 use Rattle.raw_machine.specs.Running.{end_after, goes_on, lines_of, steps_lines}
 use Rattle.raw_machine.specs.State.{PlainCard, RawState, turned, with_registers}
 use Rattle.raw_machine.specs.Telling.{Tells, plain}
 use Rattle.raw_machine.proofs.Answered.{IsAnswered, answered}
 use Rattle.raw_machine.proofs.WholeTasks.{RunsTold, run_told}
-use Rattle.raw_text.specs.declared.op.RawOp.{RawOp}
 use Rattle.raw_text.specs.declared.op.RawOp.TheVariants.{Poke, Fill, Peek, Write, Read, Go, Show, Discard}
 use Rattle.storage_model.specs.Contents.{contents_now, sector_at}
 use Rattle.storage_model.specs.declared.block.Block.{Block}
@@ -117,7 +114,7 @@ tells_registers old state regs calm t = record {
   tasks = λ runs slot below begun.
       let c = calm.begun slot begun in
       let B : Progress → Type 0 = λ p. is_begun p ≡ true in
-      let P : Progress → Type 0 = λ p. IsSomeAnd (held_at old.machine.engine.held slot) 
+      let P : Progress → Type 0 = λ p. IsSomeAnd (held_at old.machine.engine.held slot)
       (λ h. (h.progress ≡ p) × (state.tasks slot ≡ Some h.task) × (p ≢ Active → h.moved ≡ 0)) in
       subst P c.1 (t.tasks (sym c.0 ∙ runs) slot below (subst B (sym c.1) begun));
   between = λ runs slot. (
@@ -191,8 +188,7 @@ shows_by : (b : Bool) (sector : ℕ) (old new : Moment) (output : Output) (state
     → MatchBool b (HasShown sector old.machine.card old.array output new.machine.card new.array) (IsOutside old.machine.card old.array output new.machine.card new.array)
     → MatchBool b (RawSector sector state.card output) (output ≡ one Outside) × Tells new state
 shows_by true sector old new output state machine t h =
-    let now = sector_at (contents_now state.card.contents.base state.card.contents.pend) sector in
-    (
+    let now = sector_at (contents_now state.card.contents.base state.card.contents.pend) sector in (
       record {
         value = h.value;
         end = h.end;
