@@ -1,17 +1,13 @@
 -- A machine that was switched on.
-use Rattle.std.proofs.Common.{◌≡◌, ℕ, List, [], Option, None, Some, Result, Ok, IfSome, length, refl, sym, ◌∙◌, ap, subst}
+use Rattle.std.proofs.Common.{◌≡◌, ℕ, List, [], Option, None, Some, IfSome, length, sym, ◌∙◌, ap, subst}
 use Rattle.std.specs.Prelude.{unwrap_or}
-use Rattle.storage_model.specs.Count.{Count, Later}
+use Rattle.storage_model.specs.Count.{Later}
 use Rattle.storage_model.specs.declared.block.Block.{Block}
-use Rattle.storage_model.specs.declared.ends.Halt.{Halt}
 use Rattle.array_edge.specs.Array.{ArrayState}
-use Rattle.card_core.specs.Card.{sectors}
 use Rattle.card_store.specs.Store.{Stands, Store, sectors_of}
 use Rattle.intent_store.specs.Intent.{ShowsImage, shown_by}
 use Rattle.raw_face.specs.Booting.{switched_on}
-use Rattle.raw_machine.specs.Machine.{Machine, Moment, moment, switched_off}
-use Rattle.cqmmc_top.specs.Opened.{HasSectors}
-use Rattle.cqmmc_top.specs.Print.{HasCause}
+use Rattle.raw_machine.specs.Machine.{Machine, moment, switched_off}
 use Rattle.cqmmc_top.specs.Raw.{IsBegun}
 
 some_value : {count : ℕ} (found : Option ℕ) → found ≡ Some count → count ≡ unwrap_or found 0

@@ -1,10 +1,10 @@
 -- The lines of a script that tell of a fault are together no more than the array's faults.
-use Rattle.std.proofs.Common.{◌≡◌, ◌≤◌, ◌+◌, ◌⊎◌, ℕ, Bool, true, false, List, [], ◌∷◌, Option, Some, None, Result, Ok, Err, inl, inr, refl, sym, ◌∙◌, ap, subst, arith, cond}
-use Rattle.std.specs.Prelude.{◌||◌, count_by}
+use Rattle.std.proofs.Common.{◌≡◌, ◌≤◌, ◌+◌, ℕ, Bool, true, false, List, [], ◌∷◌, Option, Result, Ok, Err, inl, inr, refl, ◌∙◌, ap, subst, arith, cond}
+use Rattle.std.specs.Prelude.{count_by}
 use Rattle.std.specs.List.{list_any}
 use Rattle.std.proofs.lemmas.Bool.{or_parts}
 use Rattle.std.proofs.lemmas.List.Sums.{sum_by-append}
-use Rattle.raw_face.specs.Operation.{Does, Finishes}
+use Rattle.raw_face.specs.Operation.{Does}
 use Rattle.raw_face.specs.Output.{HasCauses, Output, tells_fault}
 use Rattle.raw_face.specs.Sector.{flush_output}
 use Rattle.raw_lines.specs.declared.raw_line.RawLine.{RawLine}
@@ -16,9 +16,8 @@ use Rattle.intent_store.specs.declared.ends.StoreEnd.TheVariants.{Flash, PowerLo
 use Rattle.storage_model.specs.Count.{Count, Later, Rose}
 use Rattle.storage_model.specs.declared.ends.Halt.{Halt}
 use Rattle.storage_model.specs.declared.trace.End.{End}
-use Rattle.storage_model.specs.declared.trace.End.TheVariants.{Fault}
 use Rattle.cqmmc_top.specs.Raw.{Plays, RoseBy, end_faults, finishes, goes_on, halts, output_faults, script_faults}
-use Rattle.cqmmc_top.proofs.Playing.{IsOpEnd, makes_end, no_fault}
+use Rattle.cqmmc_top.proofs.Playing.{IsOpEnd, makes_end}
 
 counted_if : (tells : Bool) (lines : List RawLine) → count_by tells_fault lines ≡ 0 → tells ≡ false
     → 0 + cond tells 1 0 + count_by tells_fault lines ≡ 0

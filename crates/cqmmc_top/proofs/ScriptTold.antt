@@ -1,12 +1,12 @@
 -- A raw script task by task: from a machine switched on, over each operation in turn, up to what the array shows at the end.
-use Rattle.std.proofs.Common.{◌≡◌, ℕ, ◌<◌, true, false, List, [], ◌∷◌, Option, None, Some, Result, Ok, Err, IfSome, OnOk, is_some, option_map, unwrap_or, length, refl, sym, ◌∙◌, ap, subst, arith}
+use Rattle.std.proofs.Common.{◌≡◌, ℕ, ◌<◌, true, List, [], Option, None, Some, Result, Ok, Err, IfSome, OnOk, is_some, option_map, unwrap_or, length, refl, sym, ◌∙◌, ap, subst}
 use Rattle.std.proofs.lemmas.Bool.{false≢true}
 use Rattle.std.proofs.lemmas.List.{ext_get_or}
 use Rattle.std.proofs.lemmas.List.Elements.{All-nil}
 use Rattle.array_edge.specs.Array.{ArrayState}
-use Rattle.card_core.specs.Card.{CardState, HoldsNothing, idle_card, sectors}
-use Rattle.card_store.specs.Stands.{LinesStand, StandsAt, StandsIn}
-use Rattle.card_store.specs.Store.{Contents, Stands as StoreStands, Store, sectors_of}
+use Rattle.card_core.specs.Card.{HoldsNothing, sectors}
+use Rattle.card_store.specs.Stands.{LinesStand, StandsIn}
+use Rattle.card_store.specs.Store.{Stands as StoreStands}
 use Rattle.card_store.proofs.Reading.{read_shown}
 use Rattle.card_store.proofs.Turning.{lines_left}
 use Rattle.cq_regs.specs.Slots.{is_rung}
@@ -23,9 +23,9 @@ use Rattle.raw_face.specs.Output.{Output, halt_of}
 use Rattle.raw_face.specs.Sector.{flush_output}
 use Rattle.raw_machine.specs.Machine.{Machine, Moment, moment, switched_off}
 use Rattle.raw_machine.specs.State.{PlainCard, RawState}
-use Rattle.raw_machine.specs.Telling.{Tells, plain}
+use Rattle.raw_machine.specs.Telling.{Tells}
 use Rattle.raw_text.specs.declared.op.RawOp.{RawOp}
-use Rattle.storage_model.specs.Contents.{contents_now, sector_at}
+use Rattle.storage_model.specs.Contents.{contents_now}
 use Rattle.storage_model.proofs.Appends.{length-contents_now}
 use Rattle.storage_model.specs.declared.block.Block.{Block}
 use Rattle.storage_model.specs.declared.ends.Halt.{Halt}

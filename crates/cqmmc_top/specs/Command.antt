@@ -1,8 +1,7 @@
 -- What a command answers: its status, what it wrote, and what the image shows then.
-use Rattle.std.specs.Prelude.{◌≡◌, ◌⊎◌, ℕ, ◌+◌, ◌≤◌, List, [], ◌∷◌, ◌++◌, decimal, length, Option, IfSome, Result, Ok, Err, codes, None, position}
-use Rattle.storage_model.specs.Count.{Count, Later, Rose}
+use Rattle.std.specs.Prelude.{◌≡◌, ◌⊎◌, ℕ, ◌+◌, ◌≤◌, List, [], ◌∷◌, ◌++◌, decimal, length, Option, IfSome, Result, codes, Some, None, position}
+use Rattle.storage_model.specs.Count.{Count, Rose}
 use Rattle.storage_model.specs.declared.ends.Halt.{Halt}
-use Rattle.storage_model.specs.declared.ends.Halt.TheVariants.{SinkFailed, OpenFault, PowerGone, BadImage}
 use Rattle.storage_model.specs.declared.plan.Plan.{Plan}
 use Rattle.array_edge.specs.Array.{ArrayState}
 use Rattle.io_edge.specs.Sink.{TookPart}
@@ -53,6 +52,16 @@ IsCommand Run words = IsRun words
 IsCommand ExtCsd words = IsExtCsd words
 IsCommand (New sectors) words = IsNew sectors words
 IsCommand Raw words = IsRaw words
+
+-- an image that is to be made has a number of sectors that an image may have
+abbrev pub IsMakeable : Command → Type 0
+IsMakeable (New sectors) = (1 ≤ sectors) × (sectors ≤ 65536)
+IsMakeable _ = Unit {0}
+
+-- the words call it, or they call nothing
+abbrev pub IsCall : Option Command → List (List ℕ) → Type 0
+IsCall (Some command) words = IsCommand command words
+IsCall None words = (command : Command) → IsCommand command words → ⊥
 
 module _ {K : Type 0} (took : K → List ℕ → K → Type 0) (faults_of : K → Count) where
   -- a run was refused: by a cause, and the image shows what it showed

@@ -8,7 +8,7 @@ ghost use Rattle.cqmmc_top.specs.Opened.{IsOpen};
 ghost use Rattle.cqmmc_top.specs.Serial.{IsServable};
 ghost use Rattle.cqmmc_top.specs.declared.command.Command.{Command as CommandOf};
 ghost use Rattle.cqmmc_top.specs.declared.command.Command.TheVariants.{New as NewOf};
-ghost use Rattle.cqmmc_top.specs.Command.{Answers, IsCommand, IsNew, IsServed, ListAnswers, MakeAnswers, RunAnswers};
+ghost use Rattle.cqmmc_top.specs.Command.{Answers, IsCall, IsCommand, IsMakeable, IsNew, IsServed, ListAnswers, MakeAnswers, RunAnswers};
 ghost use Rattle.cqmmc_top.specs.Refusal.{Says};
 
 use crate::listing::put_csd;
@@ -67,14 +67,29 @@ pub fn run_command<A: Array, S1: Source, S2: Source, S3: Source, K: Sink>(
     ensures third { third.new ≡ third.old }
 {
     let _ = third;
-    let status = match command_of(words) {
-        None => refuse(Refusal::Usage, out),
-        Some(Command::Run) => run(alloc, first, second, &mut array, out),
-        Some(Command::ExtCsd) => list(&mut array, out),
-        Some(Command::New { sectors }) => make(sectors, &mut array, out),
-        Some(Command::Raw) => run_script(alloc, first, &mut array, out),
-    };
+    let status = carry_out(alloc, command_of(words), first, second, &mut array, out);
     (status, array)
+}
+
+// Carries a command out, or tells the usage where there is none.
+fn carry_out<A: Array, S1: Source, S2: Source, K: Sink>(
+    alloc: Global,
+    command: Option<Command>,
+    first: &mut S1,
+    second: &mut S2,
+    array: &mut A,
+    out: &mut K,
+) -> u8
+    requires makeable { IfSome command IsMakeable }
+    ensures { (words : List (List ℕ)) → IsCall command words → Answers K.took K.faults words (S1.left first.old) (S1.faults first.old) (S1.faults first.new) (S2.left second.old) (S2.faults second.old) (S2.faults second.new) (A.state array.old) (A.state array.new) out.old result out.new }
+{
+    match command {
+        None => refuse(Refusal::Usage, out),
+        Some(Command::Run) => run(alloc, first, second, array, out),
+        Some(Command::ExtCsd) => list(array, out),
+        Some(Command::New { sectors }) => make(sectors, array, out),
+        Some(Command::Raw) => run_script(alloc, first, array, out),
+    }
 }
 
 fn run<A: Array, S1: Source, S2: Source, K: Sink>(

@@ -2,7 +2,6 @@ use Rattle.std.proofs.Common.{refl, inl, inr, subst, ap, Err}
 use Rattle.card_core.specs.Card.{sectors}
 use Rattle.epoch_cache.specs.Cache.{Cache}
 use Rattle.cqmmc_top.specs.Refusal.{Says}
-use Rattle.cqmmc_top.specs.declared.refusal.Refusal.{Refusal}
 use Rattle.cqmmc_top.specs.declared.refusal.Refusal.TheVariants.{BadImage, ArrayFault, NoPower}
 use Rattle.cqmmc_top.proofs.Beginning.{begun, has_count}
 use Rattle.cqmmc_top.proofs.ScriptTold.{script_told}

@@ -1,4 +1,4 @@
-use Rattle.std.proofs.Common.{refl, arith}
+use Rattle.std.proofs.Common.{arith}
 use Rattle.std.proofs.lemmas.Result.{err_from_is_err_and}
 use Rattle.cqmmc_top.proofs.Playing.{cause_then, does_cause, finishes_cause, no_cause, plays_end, plays_halt, plays_next}
 use Rattle.cqmmc_top.proofs.raw.play.Goals as goal

@@ -1,4 +1,4 @@
-use Rattle.std.proofs.Common.{◌≡◌, List, Result, Ok, drop}
+use Rattle.std.proofs.Common.{◌≡◌, Result, Ok, drop}
 use Rattle.storage_model.specs.declared.ends.Halt.{Halt}
 use Rattle.raw_machine.specs.Machine.{Moment, Stands, moment}
 use Rattle.cqmmc_top.specs.Print.{HasCause}
