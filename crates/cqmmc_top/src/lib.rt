@@ -17,6 +17,4 @@ mod texts;
 pub use command::{new_pages, run_command};
 
 #[cfg(test)]
-mod raw_tests;
-#[cfg(test)]
 mod tests;

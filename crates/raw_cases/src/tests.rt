@@ -1,8 +1,8 @@
 ghost use Rattle.std.specs.Prelude.{◌≤◌};
 ghost use Rattle.image_form.specs.Form.{gate_number};
 
-use crate::run_command;
 use array_edge::{Array, ArrayEnd, MemArray};
+use cqmmc_top::run_command;
 use image_form::{Gate, Super, write_gate, write_super};
 use io_edge::{EmptySource, MemSink, MemSource, NoSource};
 use std::alloc::Global;
