@@ -21,7 +21,7 @@ use Rattle.drv_jobs.specs.Changes.{collected, given_back, issued_if}
 use Rattle.drv_jobs.specs.Next.{due_of}
 use Rattle.drv_jobs.specs.Standings.{Standings, job_of}
 use Rattle.drv_core.specs.declared.act.Act.{Act}
-use Rattle.drv_core.specs.declared.act.Act.TheVariants.{Nothing, Issued, Collected, Failed, Step as Stepped}
+use Rattle.drv_core.specs.declared.act.Act.TheVariants.{Nothing, Issued, Collected, Step as Stepped}
 use Rattle.drv_core.specs.declared.work.Work.{Work}
 use Rattle.drv_core.specs.declared.work.Work.TheVariants.{Recover, Collect, Fail, Issue}
 use Rattle.drv_core.specs.State.{DriverState, asks_notice, layout_of, with_requests}

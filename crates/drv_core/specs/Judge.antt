@@ -1,6 +1,6 @@
 -- What a stop of the engine does to the request that it names (cqhci_error_irq and cqhci_finish_mrq of
 -- drivers/mmc/host/cqhci-core.c; the bits of the status word in JESD84-B51, section 6.13).
-use Rattle.std.specs.Prelude.{ℕ, ◌==◌, ◌||◌, Option, None, Some, if◌then◌else◌}
+use Rattle.std.specs.Prelude.{ℕ, ◌==◌, Option, None, Some, if◌then◌else◌}
 use Rattle.std.specs.Int.{bit_at}
 use Rattle.bus_link.specs.Link.{tells_flash}
 use Rattle.bus_link.specs.declared.link.Cause.{Cause}

@@ -7,7 +7,6 @@ use Rattle.drv_recover.specs.declared.recovery.RecoveryState.TheVariants.{Calm}
 use Rattle.drv_ring.specs.declared.places.Layout.{Layout}
 use Rattle.drv_jobs.specs.declared.next.Due.{Due}
 use Rattle.drv_jobs.specs.declared.next.Hold.{Hold}
-use Rattle.drv_jobs.specs.Next.{due_of}
 use Rattle.drv_jobs.specs.Standings.{Standings, all_waiting, is_direct}
 use Rattle.drv_core.specs.declared.set_up.TheConstants.{LIST_BASE}
 

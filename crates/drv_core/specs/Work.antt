@@ -1,6 +1,6 @@
 -- What the driver has to do in an event: the first that applies (cqhci_irq, cqhci_recovery_start and cqhci_request of
 -- drivers/mmc/host/cqhci-core.c).
-use Rattle.std.specs.Prelude.{ℕ, ◌==◌, ◌&&◌, ◌||◌, Bool, not, if◌then◌else◌}
+use Rattle.std.specs.Prelude.{◌==◌, ◌&&◌, ◌||◌, Bool, not, if◌then◌else◌}
 use Rattle.std.specs.Int.RustNames.{bit_and}
 use Rattle.cq_regs.specs.State.{Registers}
 use Rattle.drv_recover.specs.declared.recovery.RecoveryState.{RecoveryState}

@@ -297,9 +297,12 @@ fn judge(requests: &mut Requests, cause: Option<Cause>) -> Act
     ensures requests { requests.new ≡ (judged requests.old cause).requests }
 {
     match cause {
-        Some(Cause::Bus {
-            slot: Some(tag), ..
-        }) => after_fault(requests, tag),
+        Some(
+            Cause::Bus {
+                slot: Some(tag),
+                ..
+            },
+        ) => after_fault(requests, tag),
         Some(Cause::Response { word, slot }) => match error_of(word) {
             Some(why) => after_error(requests, slot, why),
             None => RETRY,

@@ -90,9 +90,13 @@ fn requests_are_issued_collected_and_issued_again(rt: HostRuntime) -> Result<(),
     assert!(rt; regs.read(0x08) == Ok(0x1001));
     assert!(rt; regs.read(0x20) == Ok(0x2000_0000));
     assert!(rt; driver.next() == Ok(1));
-    assert!(rt; driver.event(&mut regs, &mut mem, None, &mut link) == Act::Issued { id: 1, tag: 0 });
+    assert!(rt;
+        driver.event(&mut regs, &mut mem, None, &mut link) == Act::Issued { id: 1, tag: 0 }
+    );
     assert!(rt; mem.get(0x2000_0000) == Ok(0x2f));
-    assert!(rt; driver.event(&mut regs, &mut mem, None, &mut link) == Act::Issued { id: 2, tag: 1 });
+    assert!(rt;
+        driver.event(&mut regs, &mut mem, None, &mut link) == Act::Issued { id: 2, tag: 1 }
+    );
     assert!(rt; regs.read(0x28) == Ok(3));
     assert!(rt; driver.next() == Err(Hold::Behind));
     assert!(rt; driver.event(&mut regs, &mut mem, None, &mut link) == Act::Nothing);
@@ -114,7 +118,9 @@ fn requests_are_issued_collected_and_issued_again(rt: HostRuntime) -> Result<(),
     assert!(rt; driver.event(&mut regs, &mut mem, Some(lost), &mut link) == retried);
     assert!(rt; driver.recovering());
     assert!(rt; driver.event(&mut regs, &mut mem, None, &mut link) == Act::Step(Step::Moved));
-    assert!(rt; driver.event(&mut regs, &mut mem, None, &mut link) == Act::Step(Step::Again(BusKind::Lost)));
+    assert!(rt;
+        driver.event(&mut regs, &mut mem, None, &mut link) == Act::Step(Step::Again(BusKind::Lost))
+    );
     assert!(rt; driver.event(&mut regs, &mut mem, None, &mut link) == Act::Step(Step::Discard));
     assert!(rt; driver.event(&mut regs, &mut mem, None, &mut link) == Act::Step(Step::Moved));
     assert!(rt; driver.event(&mut regs, &mut mem, None, &mut link) == Act::Step(Step::Moved));
@@ -122,7 +128,9 @@ fn requests_are_issued_collected_and_issued_again(rt: HostRuntime) -> Result<(),
     assert!(rt; driver.event(&mut regs, &mut mem, None, &mut link) == Act::Step(Step::Over));
     assert!(rt; driver.waiting() == 2);
     assert!(rt; driver.issued() == 0);
-    assert!(rt; driver.event(&mut regs, &mut mem, None, &mut link) == Act::Issued { id: 2, tag: 0 });
+    assert!(rt;
+        driver.event(&mut regs, &mut mem, None, &mut link) == Act::Issued { id: 2, tag: 0 }
+    );
     Ok(())
 }
 
@@ -134,7 +142,9 @@ fn a_request_past_the_end_is_refused(rt: HostRuntime) -> Result<(), Fail> {
     let mut regs = Regs::new();
     let mut link = Card { sent: 1 };
     driver.set_up(&mut regs);
-    assert!(rt; driver.event(&mut regs, &mut mem, None, &mut link) == Act::Issued { id: 1, tag: 0 });
+    assert!(rt;
+        driver.event(&mut regs, &mut mem, None, &mut link) == Act::Issued { id: 1, tag: 0 }
+    );
     regs.stopped(0x812d_0000);
     let past = Cause::Response {
         word: 0x8000_0900,
