@@ -102,7 +102,9 @@ impl Driver {
 
     /// The request that a tag is issued for, also while a recovery holds it. None where the tag is not issued.
     pub fn holder(&self, tag: u8) -> Option<u32>
-        ensures { result ≡ holder_of self.now.requests.holders tag }
+        ensures value { result ≡ holder_of self.now.requests.holders tag }
+        ensures tag { IfSome result (λ id. tag < 32) }
+        ensures id { IfSome result (λ id. (1 ≤ id) × (id ≤ length self.now.requests.plan.jobs)) }
     {
         self.requests.holder(tag)
     }
@@ -174,6 +176,7 @@ impl Driver {
         requires layout { HasLayout mem.old (layout_of self.old.requests.plan) }
         ensures event { Event L.made (record { driver = self.old; regs = regs.old; memory = mem.old; link = link.old }) (record { driver = self.new; regs = regs.new; memory = mem.new; link = link.new }) cause result }
         ensures uses { Uses L.keeps L.fits L.state link.old link.new (step_of result) }
+        ensures plan { self.new.requests.plan ≡ self.old.requests.plan }
         ensures layout { HasLayout mem.new (layout_of self.new.requests.plan) }
         ensures at { IsAt self.old.recovery regs.old → IsAt self.new.recovery regs.new }
         ensures over { IsAt self.old.recovery regs.old → result ≡ Stepped Over → IsOver regs.new }
