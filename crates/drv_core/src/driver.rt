@@ -1,5 +1,4 @@
-ghost use Rattle.std.specs.Int.{bit_at};
-ghost use Rattle.std.specs.Prelude.{◌≡◌, ◌==◌, ◌<◌, ◌≤◌, ◌+◌, ◌^◌, IfOk, IfSome, None, Some, count_by, is_some, length};
+ghost use Rattle.std.specs.Prelude.{◌≡◌, ◌<◌, ◌≤◌, ◌+◌, ◌^◌, IfOk, IfSome, None, Some, count_by, is_some, length};
 ghost use Rattle.storage_model.specs.Plan.{IsValidPlan};
 ghost use Rattle.cq_regs.specs.Effects.{belled};
 ghost use Rattle.drv_jobs.specs.Changes.{collected, forgotten, issued_if};
@@ -14,15 +13,16 @@ ghost use Rattle.drv_recover.specs.declared.recovery.Step.TheVariants.{Moved, Ov
 ghost use Rattle.drv_core.specs.declared.act.Act.TheVariants.{Collected, Step as Stepped};
 ghost use Rattle.drv_core.specs.SetUp.{set_up};
 ghost use Rattle.drv_core.specs.State.{asks_notice, at_start, is_recovering, layout_of, next_of, with_requests};
-ghost use Rattle.drv_core.specs.Judge.{after_error, after_fault, error_of, judged};
+ghost use Rattle.drv_core.specs.Judge.{judged};
 ghost use Rattle.drv_core.specs.Event.{IsWritten, WritesFor, acknowledged, requests_after, rung_for, step_of, told_of};
 
+use crate::judge::judge;
 use crate::set_up::{LIST_BASE, set_up, upper_base};
 use crate::work::{is_recovering, work_of};
-use crate::{Act, Stop, Work};
+use crate::{Act, Work};
 use bus_link::{Cause, Link};
 use cq_regs::{Register, Regs};
-use drv_jobs::{Due, Hold, MOST_FAULTS, Requests, is_direct};
+use drv_jobs::{Due, Hold, Requests, is_direct};
 use drv_recover::{Recovery, RecoveryState, Step};
 use drv_ring::Layout;
 use host_mem::HostMem;
@@ -292,88 +292,4 @@ fn ring(regs: &mut Regs, tag: u8)
     ensures { regs.new ≡ belled regs.old (2 ^ tag) }
 {
     let _ = regs.write(DOORBELL, 1 << tag);
-}
-
-// Answers the request that a stop ends.
-fn judge(requests: &mut Requests, cause: Option<Cause>) -> Act
-    ensures act { result ≡ (judged requests.old cause).act }
-    ensures requests { requests.new ≡ (judged requests.old cause).requests }
-{
-    match cause {
-        Some(
-            Cause::Bus {
-                slot: Some(tag),
-                ..
-            },
-        ) => after_fault(requests, tag),
-        Some(Cause::Response { word, slot }) => match error_of(word) {
-            Some(why) => after_error(requests, slot, why),
-            None => RETRY,
-        },
-        _ => RETRY,
-    }
-}
-
-/// No request is ended.
-const RETRY: Act = Act::Failed {
-    id: None,
-    why: Stop::Retry,
-};
-
-// Counts a fault of the bus in the task of a tag.
-fn after_fault(requests: &mut Requests, tag: u8) -> Act
-    ensures act { result ≡ (after_fault requests.old tag (holder_of requests.old.holders tag)).act }
-    ensures requests { requests.new ≡ (after_fault requests.old tag (holder_of requests.old.holders tag)).requests }
-{
-    match requests.holder(tag) {
-        Some(id) => {
-            if requests.note_fault(id) != MOST_FAULTS {
-                return RETRY;
-            }
-            requests.answer(tag);
-            Act::Failed {
-                id: Some(id),
-                why: Stop::Bus,
-            }
-        }
-        None => RETRY,
-    }
-}
-
-// Answers the request of a tag with an error.
-fn after_error(requests: &mut Requests, tag: u8, why: Stop) -> Act
-    ensures act { result ≡ (after_error requests.old tag why (holder_of requests.old.holders tag)).act }
-    ensures requests { requests.new ≡ (after_error requests.old tag why (holder_of requests.old.holders tag)).requests }
-{
-    match requests.holder(tag) {
-        Some(id) => {
-            requests.answer(tag);
-            Act::Failed { id: Some(id), why }
-        }
-        None => RETRY,
-    }
-}
-
-// The error of a status word that ends a request.
-fn error_of(word: u32) -> Option<Stop>
-    ensures { result ≡ error_of word }
-{
-    if is_set(word, 19) {
-        return Some(Stop::Flash);
-    }
-    if is_set(word, 21) {
-        return Some(Stop::Flash);
-    }
-    if is_set(word, 31) {
-        return Some(Stop::Range);
-    }
-    None
-}
-
-// Whether a bit of a word is 1.
-fn is_set(word: u32, bit: u8) -> bool
-    requires { bit < 32 }
-    ensures { result ≡ (bit_at word bit == 1) }
-{
-    word >> bit & 1 == 1
 }

@@ -4,6 +4,7 @@
 
 mod act;
 mod driver;
+mod judge;
 mod set_up;
 mod work;
 
