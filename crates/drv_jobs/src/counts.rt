@@ -19,7 +19,7 @@ pub(crate) fn first_from(waiting: &[bool], from: usize) -> usize
     place
 }
 
-// A request that waits no more.
+// The lowest waiting request waits no more.
 pub(crate) fn take_first(waiting: &mut [bool], first: &mut usize, count: &mut u32)
     requires counted { IsCounted waiting.old first.old count.old }
     requires waits { first.old < length waiting.old }
@@ -32,7 +32,7 @@ pub(crate) fn take_first(waiting: &mut [bool], first: &mut usize, count: &mut u3
     *first = first_from(waiting, place + 1);
 }
 
-// A request that waits again.
+// The request at a place waits again.
 pub(crate) fn wait_again(waiting: &mut [bool], first: &mut usize, count: &mut u32, place: usize)
     requires counted { IsCounted waiting.old first.old count.old }
     requires within { place < length waiting.old }

@@ -25,9 +25,12 @@ pub struct Requests {
     plan: Plan,
     waiting: Vec<bool>,
     holders: Holders,
+    /// Counted up to `MOST_FAULTS`.
     faults: Vec<u8>,
     tags: Tags,
+    /// The place of the lowest waiting request, or the number of requests.
     first: usize,
+    /// How many wait.
     count: u32,
 }
 
