@@ -1,6 +1,6 @@
 -- What taking and giving a tag do to each tag, and the first of some numbers that passes a test.
 use Rattle.std.proofs.Common.{◌≡◌, ◌≢◌, ℕ, zero, suc, ◌+◌, ◌-◌, ◌^◌, ◌<◌, Bool, true, false, refl, sym, ap, ◌∙◌, subst, arith}
-use Rattle.std.specs.Prelude.{◌==◌, cond, not, nat_lt, Some, None}
+use Rattle.std.specs.Prelude.{◌==◌, cond, not, nat_lt, Option, Some, None, IfSome, IfNone}
 use Rattle.std.specs.Int.{bit_at, w32}
 use Rattle.std.specs.Int.RustNames.{bit_and, bit_or}
 use Rattle.std.specs.List.{find, range_with_len}
@@ -135,3 +135,9 @@ pub lowest_free-none : (tags : TagSet) → AreUsedBelow tags tags.depth → lowe
 lowest_free-none tags all =
     let at : (k : ℕ) → 0 + k ≡ k = λ k. omega arith in
     find-none (λ tag. not (is_used tags tag)) 0 tags.depth (λ k l. ap (λ n. not (is_used tags n)) (at k) ∙ ap not (all k l))
+
+-- what the search of the tags answers is the lowest free one
+pub lowest_free-is : (tags : TagSet) (found : Option ℕ) → IfSome found (λ tag. tag < tags.depth) → IfSome found (λ tag. is_used tags tag ≡ false)
+    → IfSome found (λ tag. AreUsedBelow tags tag) → IfNone found (AreUsedBelow tags tags.depth) → found ≡ lowest_free tags
+lowest_free-is tags (Some tag) low free below all = sym (lowest_free-first tags tag low free below)
+lowest_free-is tags None low free below all = sym (lowest_free-none tags all)

@@ -48,6 +48,13 @@ impl Tags {
         Some(tag)
     }
 
+    /// The lowest tag that is not used. None where all are used.
+    pub fn peek(&self) -> Option<u8>
+        ensures { result ≡ lowest_free self.now }
+    {
+        lowest_free(self.used, self.depth)
+    }
+
     /// Gives a used tag back.
     pub fn give(&mut self, tag: u8)
         requires { is_used self.old tag ≡ true }

@@ -1,0 +1,5 @@
+pub mod State
+pub mod SetUp
+pub mod Work
+pub mod Judge
+pub mod Event

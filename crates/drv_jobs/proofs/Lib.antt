@@ -1,0 +1,4 @@
+pub mod CountLaws
+pub mod HolderLaws
+pub mod NextLaws
+pub mod SoundLaws

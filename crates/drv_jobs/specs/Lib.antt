@@ -1,0 +1,4 @@
+pub mod Standings
+pub mod Next
+pub mod Changes
+pub mod Sound
