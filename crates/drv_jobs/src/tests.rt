@@ -1,23 +1,15 @@
+ghost use Rattle.std.specs.Prelude.{IfOk};
+ghost use Rattle.storage_model.specs.Plan.{IsValidPlan};
+
 use crate::{Due, Hold, Requests};
 use std::alloc::Global;
 use std::test::Fail;
 use storage_model::{BlockList, Fill, Job, JobList, Plan};
 
-fn plan_of(alloc: Global, jobs: JobList) -> Plan {
-    Plan {
-        depth: 2,
-        lines: 64,
-        through: false,
-        wide: false,
-        coalesce: 0,
-        jobs,
-        blocks: BlockList::new(alloc),
-    }
-}
-
-#[test]
-fn requests_are_issued_and_given_back(rt: HostRuntime) -> Result<(), Fail> {
-    let mut jobs = JobList::new(rt.alloc());
+/// A plan of two tags, for three writes and a flush.
+fn plan_of(alloc: Global) -> Result<Plan, Fail>
+    ensures { IfOk result IsValidPlan }
+{
     let write = Job::Write {
         sector: 0,
         blocks: 1,
@@ -26,11 +18,25 @@ fn requests_are_issued_and_given_back(rt: HostRuntime) -> Result<(), Fail> {
         reliable: false,
         high: false,
     };
+    let mut jobs = JobList::new(alloc);
     jobs.push(write)?;
     jobs.push(write)?;
     jobs.push(write)?;
     jobs.push(Job::Flush)?;
-    let mut requests = Requests::start(rt.alloc(), plan_of(rt.alloc(), jobs))?;
+    Ok(Plan {
+        depth: 2,
+        lines: 64,
+        through: false,
+        wide: false,
+        coalesce: 0,
+        jobs,
+        blocks: BlockList::new(alloc),
+    })
+}
+
+#[test]
+fn requests_are_issued_and_given_back(rt: HostRuntime) -> Result<(), Fail> {
+    let mut requests = Requests::start(rt.alloc(), plan_of(rt.alloc())?)?;
     assert!(rt; requests.issue() == Ok(Due { id: 1, tag: 0 }));
     assert!(rt; requests.issue() == Ok(Due { id: 2, tag: 1 }));
     assert!(rt; requests.issue() == Err(Hold::Full));
