@@ -1,3 +1,6 @@
+ghost use Rattle.std.specs.Prelude.{IfOk};
+ghost use Rattle.storage_model.specs.Plan.{IsValidPlan};
+
 use crate::{Act, Driver, Hold, Stop};
 use bus_link::{Cause, Link, LinkEnd};
 use cmd_words::Command;
@@ -55,7 +58,9 @@ impl Link for Card {
 }
 
 /// A plan of two tags, for two writes and a flush.
-fn plan_of(alloc: Global) -> Result<Plan, Fail> {
+fn plan_of(alloc: Global) -> Result<Plan, Fail>
+    ensures { IfOk result IsValidPlan }
+{
     let write = Job::Write {
         sector: 0,
         blocks: 1,
