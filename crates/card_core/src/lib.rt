@@ -9,6 +9,3 @@ mod phase;
 pub use card::Card;
 pub use ends::{BlockEnd, Dark};
 pub use phase::{DIRECT_TASK, DataPhase, Phase};
-
-#[cfg(test)]
-mod tests;

@@ -6,6 +6,3 @@ mod calls;
 mod link;
 
 pub use link::CardLink;
-
-#[cfg(test)]
-mod tests;

@@ -9,6 +9,3 @@ mod store;
 
 pub use ends::StageEnd;
 pub use store::CardStore;
-
-#[cfg(test)]
-mod tests;

@@ -90,15 +90,3 @@ impl Status {
         Status::from_bits_truncate(word)
     }
 }
-
-#[cfg(test)]
-mod tests {
-    use super::*;
-
-    #[test]
-    fn words(rt: HostRuntime) {
-        assert_eq!(rt; Status::empty().word(), 0x0000_0900);
-        assert_eq!(rt; Status::SWITCH_ERROR.word(), 0x0000_0980);
-        assert_eq!(rt; Status::of_word(0x8000_0900), Status::ADDRESS_OUT_OF_RANGE);
-    }
-}

@@ -119,38 +119,3 @@ impl ExtCsd {
         })
     }
 }
-
-#[cfg(test)]
-mod tests {
-    use super::*;
-
-    #[test]
-    fn reads_the_table(rt: HostRuntime) {
-        let csd = ExtCsd::new(8, 16, 64);
-        let values = [0, 0, 0, 0, 0, 0, 0, 4, 0, 8, 8, 1, 0, 256, 15, 1, 1];
-        for (field, value) in Field::ALL.iter().zip(values.iter()) {
-            assert_eq!(rt; csd.get(*field), *value);
-        }
-        assert_eq!(rt; Field::CacheSize.index(), 249);
-        assert_eq!(rt; Field::CacheSize.name(), "CACHE_SIZE");
-        assert_eq!(rt; Field::CacheSize.width(), 4);
-    }
-
-    #[test]
-    fn switches(rt: HostRuntime) {
-        let mut csd = ExtCsd::new(8, 16, 64);
-        assert_eq!(rt;
-            csd.switch(0x0320_0201),
-            Err(SwitchError),
-            "no barrier while BARRIER_CTRL is 0"
-        );
-        assert_eq!(rt; csd.switch(0x031f_0101), Ok(Change::Plain));
-        assert_eq!(rt; csd.switch(0x0320_0201), Ok(Change::Barrier));
-        assert_eq!(rt; csd.switch(0x0121_0101), Ok(Change::Plain));
-        assert_eq!(rt; csd.switch(0x0320_0101), Ok(Change::Flush));
-        assert_eq!(rt; csd.switch(0x0221_0101), Ok(Change::CacheOff));
-        assert_eq!(rt; csd.switch(0x0363_0101), Err(SwitchError), "no field at 99");
-        csd.power_off();
-        assert_eq!(rt; csd.get(Field::BarrierCtrl), 0);
-    }
-}

@@ -178,37 +178,3 @@ fn queued_bits(slots: &[Option<Queued>]) -> u32
     }
     word
 }
-
-#[cfg(test)]
-mod tests {
-    use super::*;
-
-    const WRITE: Task = Task {
-        task: 3,
-        read: false,
-        blocks: 1,
-        forced: false,
-        reliable: false,
-        high: false,
-    };
-
-    #[test]
-    fn queues_and_takes(rt: HostRuntime) {
-        let mut queue = TaskQueue::new(31);
-        assert_eq!(rt; queue.address(7), Err(QueueRefusal::NoParams));
-        assert_eq!(rt; queue.params(WRITE), Ok(()));
-        assert_eq!(rt; queue.address(7), Ok(3));
-        assert_eq!(rt; queue.params(WRITE), Err(QueueRefusal::InUse));
-        queue.make_ready(0);
-        assert_eq!(rt; queue.status_word(), 0);
-        assert_eq!(rt; queue.take(3), Err(QueueRefusal::NotReady));
-        queue.make_ready(0xffff_ffff);
-        assert_eq!(rt; queue.status_word(), 0x0000_0008);
-        assert_eq!(rt; queue.queued(3).map_or(0, |queued| queued.start), 7);
-        assert_eq!(rt; queue.take(3).map_or(0, |queued| queued.start), 7);
-        assert_eq!(rt; queue.queued(3), None);
-        assert_eq!(rt; queue.params(WRITE), Ok(()));
-        queue.discard(Some(1));
-        assert_eq!(rt; queue.address(7), Err(QueueRefusal::NoParams));
-    }
-}

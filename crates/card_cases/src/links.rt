@@ -1,46 +1,14 @@
 ghost use Rattle.std.specs.Prelude.{◌≡◌};
-ghost use Rattle.bus_link.specs.Link.Call.{Exchanged};
 ghost use Rattle.card_link.specs.Behind.{Fits, behind};
-ghost use Rattle.card_link.specs.Made.{Exchanges};
 
-use crate::CardLink;
-use array_edge::{Array, MemArray};
+use crate::images::image;
+use array_edge::Array;
 use bus_link::{Link, LinkEnd, ScriptLink};
 use card_core::Card;
+use card_link::CardLink;
 use cmd_words::{Command, Task};
-use image_form::{Gate, Super, write_gate, write_super};
-use std::alloc::Global;
 use std::test::Fail;
-use storage_model::{ArrayHits, Block, BlockList, BusKind, Hit, HitList, NoMemory, WordList};
-
-// Sends a command over any link.
-fn send<L: Link>(link: &mut L, command: &Command) -> Result<u32, LinkEnd>
-    requires { L.fits link.old }
-    ensures made { L.made link.old (Exchanged command.now result) link.new }
-    ensures keeps { L.keeps link.old link.new }
-    ensures fits { L.fits link.new }
-{
-    link.exchange(command)
-}
-
-// The owner of card, array and script lends them to a link, and knows them after it.
-fn send_over<A: Array>(
-    card: &mut Card,
-    array: &mut A,
-    script: &mut ScriptLink,
-    command: &Command,
-) -> Result<u32, LinkEnd>
-    requires { Fits (behind card.old (A.state array.old) script.old) }
-    ensures made { Exchanges command.now (behind card.old (A.state array.old) script.old) (behind card.new (A.state array.new) script.new) result }
-    ensures fits { Fits (behind card.new (A.state array.new) script.new) }
-{
-    let mut link = CardLink {
-        card,
-        array,
-        link: script,
-    };
-    send(&mut link, command)
-}
+use storage_model::{Block, BusKind, Hit, HitList, WordList};
 
 const POLL: Command = Command::Status {
     queue: true,
@@ -65,18 +33,6 @@ const READ: Task = Task {
     read: true,
     ..WRITE
 };
-
-// An image of 8 zero sectors.
-fn image(alloc: Global) -> Result<MemArray, NoMemory> {
-    let mut pages = BlockList::from_vec(vec![in alloc; Block([0; 512]); 16]?);
-    let first = Super {
-        version: 1,
-        sectors: 8,
-    };
-    pages.set(0, write_super(first));
-    pages.set(1, write_gate(Gate::Shut));
-    Ok(MemArray::over(pages, ArrayHits::new(alloc)))
-}
 
 // Queues the task for sector 2, polls, and begins its data phase.
 fn begin<A: Array>(link: &mut CardLink<A>, task: Task) -> Result<u32, LinkEnd>
@@ -106,8 +62,10 @@ fn faults_befall_their_commands(rt: HostRuntime) -> Result<(), Fail> {
     hits.push(hit(3, BusKind::NoResp))?;
     hits.push(hit(9, BusKind::Bad(1)))?;
     hits.push(hit(14, BusKind::Late))?;
-    let mut script = ScriptLink::start(rt.alloc(), hits, WordList::new(rt.alloc()))?;
-    let mut array = image(rt.alloc())?;
+    let mut ready = WordList::new(rt.alloc());
+    ready.push(6)?;
+    let mut script = ScriptLink::start(rt.alloc(), hits, ready)?;
+    let mut array = image(rt.alloc(), &[])?;
     let mut card = Card::start(rt.alloc(), 16, 64, false)?;
     if card.boot(&mut array).is_err() {
         panic!(rt; "no image");
@@ -121,7 +79,7 @@ fn faults_befall_their_commands(rt: HostRuntime) -> Result<(), Fail> {
     assert!(rt; link.exchange(&params) == Err(LinkEnd::Bus(BusKind::Lost)));
     assert!(rt; link.exchange(&params) == Ok(0x900));
     assert!(rt; link.exchange(&Command::Address(2)) == Err(LinkEnd::Bus(BusKind::NoResp)));
-    assert!(rt; link.exchange(&POLL) == Ok(1));
+    assert!(rt; link.exchange(&POLL) == Ok(0));
     assert!(rt; link.exchange(&DISCARD) == Ok(0x900));
     let value = Block([0xaa; 512]);
     assert!(rt; begin(&mut link, WRITE) == Ok(0x900));
@@ -135,19 +93,8 @@ fn faults_befall_their_commands(rt: HostRuntime) -> Result<(), Fail> {
     assert!(rt; link.take(&mut read) == Ok(()));
     assert!(rt; read == value);
     assert!(rt; link.close() == Ok(0x900));
-    Ok(())
-}
-
-#[test]
-fn the_owner_has_its_card_back(rt: HostRuntime) -> Result<(), Fail> {
-    let hits = HitList::new(rt.alloc());
-    let mut script = ScriptLink::start(rt.alloc(), hits, WordList::new(rt.alloc()))?;
-    let mut array = image(rt.alloc())?;
-    let mut card = Card::start(rt.alloc(), 16, 64, false)?;
-    if card.boot(&mut array).is_err() {
-        panic!(rt; "no image");
-    }
-    assert!(rt; send_over(&mut card, &mut array, &mut script, &DISCARD) == Ok(0x900));
-    assert!(rt; script.sent() == 1);
+    assert!(rt; script.sent() == 18);
+    assert!(rt; script.recent(1) == Some((13, 0x0001_8000)));
+    assert!(rt; script.recent(32) == None);
     Ok(())
 }

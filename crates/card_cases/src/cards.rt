@@ -1,14 +1,13 @@
 ghost use Rattle.array_edge.specs.Memory.{array_of};
 ghost use Rattle.card_store.specs.Store.{IsOpen};
 
-use crate::{BlockEnd, Card, Dark, Phase};
+use crate::images::image;
 use array_edge::MemArray;
+use card_core::{BlockEnd, Card, Dark, Phase};
 use card_store::StageEnd;
 use cmd_words::{Command, Task};
-use image_form::{Gate, Super, write_gate, write_super};
-use std::alloc::Global;
 use std::test::Fail;
-use storage_model::{ArrayHit, ArrayHits, Block, BlockList, NoMemory};
+use storage_model::{ArrayHit, Block};
 
 const ALL: u32 = 0xffff_ffff;
 
@@ -27,19 +26,6 @@ const FLUSH: Command = Command::Switch { arg: 0x0320_0101 };
 const BARRIER: Command = Command::Switch { arg: 0x0320_0201 };
 
 const CACHE_OFF: Command = Command::Switch { arg: 0x0321_0001 };
-
-// An image of 8 zero sectors, of whose calls these fail.
-fn image(alloc: Global, hits: &[ArrayHit]) -> Result<MemArray, NoMemory> {
-    let mut pages = BlockList::from_vec(vec![in alloc; Block([0; 512]); 16]?);
-    let first = Super {
-        version: 1,
-        sectors: 8,
-    };
-    pages.set(0, write_super(first));
-    pages.set(1, write_gate(Gate::Shut));
-    let hits = ArrayHits::from_vec(hits.to_vec(alloc)?);
-    Ok(MemArray::over(pages, hits))
-}
 
 fn write_of(task: u8, blocks: u16) -> Task {
     Task {
