@@ -13,6 +13,3 @@ pub use driver::Driver;
 pub use drv_jobs::Hold;
 pub use set_up::LIST_BASE;
 pub use work::Work;
-
-#[cfg(test)]
-mod tests;

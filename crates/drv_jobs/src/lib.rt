@@ -9,6 +9,3 @@ mod requests;
 
 pub use next::{DIRECT_TAG, Due, Hold, is_direct};
 pub use requests::{MOST_FAULTS, Requests};
-
-#[cfg(test)]
-mod tests;

@@ -5,6 +5,3 @@
 mod recovery;
 
 pub use recovery::{Recovery, RecoveryState, Step};
-
-#[cfg(test)]
-mod tests;

@@ -14,6 +14,3 @@ pub use places::{
     BUFFER_BYTES, FIRST_BUFFER, FIRST_TABLE, Layout, MOST_BLOCKS, MOST_DEPTH, TABLE_BYTES,
 };
 pub use task::{CARD, FLUSH_CACHE, RESPONSE_R1, RESPONSE_R1B, SET_BARRIER};
-
-#[cfg(test)]
-mod tests;

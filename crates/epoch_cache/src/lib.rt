@@ -8,6 +8,3 @@ mod table;
 
 pub use cache::{EpochCache, Full};
 pub use line::Line;
-
-#[cfg(test)]
-mod tests;

@@ -4,6 +4,3 @@
 mod data;
 
 pub use data::{read_block, write_block};
-
-#[cfg(test)]
-mod tests;
