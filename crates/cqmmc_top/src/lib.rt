@@ -15,6 +15,3 @@ mod serve;
 mod texts;
 
 pub use command::{new_pages, run_command};
-
-#[cfg(test)]
-mod tests;

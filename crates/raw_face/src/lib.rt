@@ -9,6 +9,3 @@ mod reply;
 mod sector;
 
 pub use raw::Raw;
-
-#[cfg(test)]
-mod tests;
