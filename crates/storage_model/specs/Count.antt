@@ -1,10 +1,14 @@
 -- Counts of faults. A counter in a machine word stays at its last value.
-use Rattle.std.specs.Prelude.{◌≡◌, ◌⊎◌, ◌+◌, ◌<◌, ◌≤◌, ℕ, Bool, true}
+use Rattle.std.specs.Prelude.{◌≡◌, ◌⊎◌, ◌+◌, ◌-◌, ◌^◌, ◌==◌, ◌<◌, ◌≤◌, ℕ, Bool, true}
 
 -- how often it happened, and whether the counter stands at its end, so that more isn't counted
 pub record Count : Type 0 where
   pub value : ℕ
   pub stands : Bool
+
+-- what a counter of 64 bits tells, which stays at its last value
+abbrev pub count_of : ℕ → Count
+count_of n = record { value = n; stands = n == 2 ^ 64 - 1 }
 
 -- it didn't fall
 pub record Later (old new : Count) : Type 0 where

@@ -4,6 +4,7 @@ use Rattle.storage_model.specs.Contents.{bars, contents_now, put_on, sector_at}
 use Rattle.storage_model.specs.Granule.{granule}
 use Rattle.storage_model.specs.Left.{is_left, mix_at, some_below}
 use Rattle.storage_model.specs.declared.block.Block.{Block}
+use Rattle.storage_model.specs.declared.block.TheConstants.{GRANULES}
 use Rattle.storage_model.specs.declared.marks.Put.{Put}
 use Rattle.storage_model.specs.declared.marks.Mark.{Mark}
 use Rattle.storage_model.specs.declared.marks.Mark.TheVariants.{Put as PutMark, Bar}
@@ -14,7 +15,7 @@ IsValueOf base pend s v = (v ≡ sector_at base s) ⊎ ((put : Put) × Contains 
 
 -- each granule is the kept one or a later one
 abbrev pub IsKeptOrLater : List Block → List Mark → List Block → Type 0
-IsKeptOrLater base pend after = (s g : ℕ) → s < length base → g < 8 → (v : Block) × IsValueOf base pend s v × (granule (sector_at after s) g ≡ granule v g)
+IsKeptOrLater base pend after = (s g : ℕ) → s < length base → g < GRANULES → (v : Block) × IsValueOf base pend s v × (granule (sector_at after s) g ≡ granule v g)
 
 -- at a barrier: nothing behind it is left, or all in front of it is whole
 abbrev pub KeepsBarriers : List Block → List Mark → List Block → Type 0

@@ -5,6 +5,7 @@ use Rattle.std.specs.List.{list_any}
 use Rattle.storage_model.specs.Contents.{bars, before_epoch, puts_at, sector_at}
 use Rattle.storage_model.specs.Granule.{granule}
 use Rattle.storage_model.specs.declared.block.Block.{Block}
+use Rattle.storage_model.specs.declared.block.TheConstants.{GRANULES}
 use Rattle.storage_model.specs.declared.marks.Put.{Put}
 use Rattle.storage_model.specs.declared.marks.Mark.{Mark}
 
@@ -28,7 +29,7 @@ has_granule values w g = list_any (λ v. same_granule g v w) values
 
 -- each granule of w is that of one of the values
 unfoldable pub is_mix : List Block → Block → Bool
-is_mix values w = every_below 8 (has_granule values w)
+is_mix values w = every_below GRANULES (has_granule values w)
 
 -- The values of a sector in an epoch, from those at hand on, parted in front of each reliable put. The values of a segment may mix, those of two may not.
 abbrev pub segments : List Block → List Put → List (List Block)

@@ -1,8 +1,11 @@
 pub mod Contents
 pub mod Count
 pub mod Cover
+pub mod Faults
 pub mod Granule
 pub mod Keep
 pub mod Laws
 pub mod Left
+pub mod Places
 pub mod Plan
+pub mod Unit

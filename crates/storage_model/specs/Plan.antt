@@ -1,10 +1,10 @@
 -- Requests and the contents that they write.
-use Rattle.std.specs.Prelude.{All, sum_by, ◌≤◌, ℕ, ◌+◌, ◌*◌, ◌%◌, ◌<◌, List, [], length, map, replicate, slice_index_or}
+use Rattle.std.specs.Prelude.{All, sum_by, ◌≤◌, ℕ, ◌+◌, ◌-◌, Bool, true, false, ◌*◌, ◌%◌, ◌<◌, List, [], length, map, replicate, slice_index_or}
 use Rattle.std.specs.List.{range_with_len}
 use Rattle.storage_model.specs.declared.block.Block.{Block}
 use Rattle.storage_model.specs.declared.plan.Fill.{Fill}
 use Rattle.storage_model.specs.declared.plan.Job.{Job}
-use Rattle.storage_model.specs.declared.plan.Job.TheVariants.{Read, Write, Flush, Barrier, Status}
+use Rattle.storage_model.specs.declared.plan.Job.TheVariants.{Read, Write, Flush}
 use Rattle.storage_model.specs.declared.plan.Plan.{Plan}
 use Rattle.storage_model.specs.declared.plan.Fill.TheVariants.{Same, Ramp, Listed}
 
@@ -29,6 +29,16 @@ abbrev pub blocks_of : Job → ℕ
 blocks_of (Read sector blocks high) = blocks
 blocks_of (Write sector blocks fill forced reliable high) = blocks
 blocks_of _ = 0
+
+-- a flush, a barrier and a status are commands of their own (CQHCI's direct commands, DCMD)
+abbrev pub is_direct : Job → Bool
+is_direct (Read sector blocks high) = false
+is_direct (Write sector blocks fill forced reliable high) = false
+is_direct job = true
+
+-- request `id`; they are counted from 1
+abbrev pub job_of : List Job → ℕ → Job
+job_of jobs id = slice_index_or jobs (id - 1) Flush
 
 -- the list has all blocks that a write names
 abbrev pub IsFillListed : List Block → Fill → ℕ → Type 0

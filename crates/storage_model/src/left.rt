@@ -4,7 +4,9 @@ ghost use Rattle.storage_model.specs.Cover.{Covers};
 ghost use Rattle.storage_model.specs.Laws.{IsKeptOrLater, KeepsBarriers, KeepsReliable};
 ghost use Rattle.storage_model.specs.Left.{is_left, is_left_in, is_mix, mix_at, same_granule};
 ghost use Rattle.storage_model.specs.declared.block.Block.{Block};
+ghost use Rattle.storage_model.specs.declared.block.TheConstants.{GRANULES};
 
+use crate::block::GRANULES;
 use crate::contents::count_bars;
 use crate::{Block, Mark};
 
@@ -73,16 +75,16 @@ pub fn mix_allows(base: &[Block], pend: &[Mark], epoch: usize, sector: usize, va
 }
 
 // Which granules of `left` one value has.
-fn cover_of(value: &Block, left: &Block) -> [bool; 8]
+fn cover_of(value: &Block, left: &Block) -> [bool; GRANULES]
     ensures { Covers result (value.now ∷ []) left.now }
 {
-    let mut cover = [false; 8];
+    let mut cover = [false; GRANULES];
     add_cover(&mut cover, value, left);
     cover
 }
 
 // Adds the granules that a further value has.
-fn add_cover(cover: &mut [bool; 8], value: &Block, left: &Block)
+fn add_cover(cover: &mut [bool; GRANULES], value: &Block, left: &Block)
     ensures { (values : List Block) → Covers cover.old values left.now → Covers cover.new (values ++ value.now ∷ []) left.now }
 {
     for (granule, has) in cover.iter_mut().enumerate() {
@@ -92,19 +94,16 @@ fn add_cover(cover: &mut [bool; 8], value: &Block, left: &Block)
     }
 }
 
-fn is_full(cover: &[bool; 8]) -> bool
+fn is_full(cover: &[bool; GRANULES]) -> bool
     ensures { (values : List Block) → (left : Block) → Covers cover.now values left → result ≡ is_mix values left }
 {
     cover.iter().all(|has| *has)
 }
 
 fn is_same_granule(granule: usize, value: &Block, other: &Block) -> bool
-    requires { granule < 8 }
+    requires { granule < GRANULES }
     ensures { result ≡ same_granule granule value.now other.now }
 {
     let start = 64 * granule;
     value.0[start..start + 64] == other.0[start..start + 64]
 }
-
-#[cfg(test)]
-mod tests;

@@ -1,6 +1,6 @@
 // Requests, and the contents that they write.
 ghost use Rattle.std.specs.Prelude.{◌≡◌};
-ghost use Rattle.storage_model.specs.Plan.{IsInList, block_at, ramp};
+ghost use Rattle.storage_model.specs.Plan.{IsInList, block_at, is_direct, job_of, ramp};
 
 use crate::{Block, BlockList, Sequence};
 
@@ -49,6 +49,25 @@ pub struct Plan {
     pub jobs: JobList,
     /// What the fills name.
     pub blocks: BlockList,
+}
+
+/// Request `id`, counted from 1.
+pub fn job_of(jobs: &JobList, id: u32) -> Job
+    ensures { result ≡ job_of jobs.now id }
+{
+    let place = (id as usize).saturating_sub(1);
+    if place < jobs.len() {
+        *jobs.at(place)
+    } else {
+        Job::Flush
+    }
+}
+
+/// Whether a job is a command of its own: a flush, a barrier or a status (CQHCI's direct commands, DCMD).
+pub fn is_direct(job: &Job) -> bool
+    ensures { result ≡ is_direct job.now }
+{
+    matches!(job, Job::Flush | Job::Barrier | Job::Status)
 }
 
 /// Block `k` of a fill, counted from 0.

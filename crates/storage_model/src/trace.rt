@@ -7,6 +7,13 @@ pub enum Why {
     Flash,
 }
 
+/// What a refused request passed: it ends past the last sector, or it does not begin and end at units.
+#[derive(Clone, Copy, Debug, PartialEq, Eq)]
+pub enum Limit {
+    Range,
+    Align,
+}
+
 /// How a run ended.
 #[derive(Clone, Copy, Debug, PartialEq, Eq)]
 pub enum End {
@@ -80,6 +87,7 @@ pub enum Item {
     },
     Refused {
         id: u32,
+        why: Limit,
     },
     Cut,
     Lost {
