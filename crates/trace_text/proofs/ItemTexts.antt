@@ -16,12 +16,14 @@ use Rattle.storage_model.specs.declared.trace.End.TheVariants.{Good, Fault as Fa
 use Rattle.storage_model.specs.declared.trace.Why.{Why}
 use Rattle.storage_model.specs.declared.trace.Why.TheVariants.{Bus as BusFault, Flash as FlashFault}
 use Rattle.storage_model.specs.declared.trace.Item.{Item}
+use Rattle.storage_model.specs.declared.trace.Limit.{Limit}
+use Rattle.storage_model.specs.declared.trace.Limit.TheVariants.{Range, Align}
 use Rattle.storage_model.specs.declared.trace.Item.TheVariants.{Card, Issue, Params, Address, Poll, Phase, Discard, Bus, Flash, Recover, Irq, Done, Read, Sector, Status, Fault, Refused, Cut, Lost, On, Left, Turn, Off}
 use Rattle.text_words.specs.Reads.{Reads}
 use Rattle.text_words.specs.Words.{hex_byte, hex_word, spaced, words_of}
 use Rattle.text_words.proofs.Lines.{IsFree, IsWord, first_part, free_words, line_free, not_free, word_from_test, words_of-words}
 use Rattle.text_words.proofs.Spellings.{byte_word, decimal_word, digits_word}
-use Rattle.trace_text.specs.Trace.{IsBlock, IsItem, IsKind, data_words, end_text, id_text, is_one_byte, item_text, item_words, kept_words, kind_words, letter_text, lines_text, why_text}
+use Rattle.trace_text.specs.Trace.{IsBlock, IsItem, IsKind, data_words, end_text, id_text, is_one_byte, item_text, item_words, kept_words, kind_words, letter_text, limit_text, lines_text, why_text}
 use Rattle.trace_text.proofs.ItemWords.{data_digits, data_fill, data_words-some, either}
 
 hex_word_word : (n : ℕ) → n < 2 ^ 32 → IsWord (hex_word n)
@@ -38,6 +40,10 @@ id_word None fits = word_from_test (codes "-") refl
 why_word : (why : Why) → IsWord (why_text why)
 why_word BusFault = word_from_test (codes "bus") refl
 why_word FlashFault = word_from_test (codes "flash") refl
+
+limit_word : (limit : Limit) → IsWord (limit_text limit)
+limit_word Range = word_from_test (codes "range") refl
+limit_word Align = word_from_test (codes "align") refl
 
 letter_word : (letter : Letter) → IsWord (letter_text letter)
 letter_word Host = word_from_test (codes "h") refl
@@ -85,7 +91,7 @@ item_words-plain (Read id) valid = All-cons IsWord (decimal id) (codes "data" �
 item_words-plain (Sector value) valid = data_plain value valid
 item_words-plain (Status id number) valid = All-cons IsWord (decimal id) (codes "status" ∷ hex_word number ∷ []) (decimal_word id (valid.0)) (All-cons IsWord (codes "status") (hex_word number ∷ []) (word_from_test (codes "status") refl) (All-cons IsWord (hex_word number) ([]) (hex_word_word number (valid.1)) (All-nil IsWord)))
 item_words-plain (Fault id why) valid = All-cons IsWord (decimal id) (codes "fault" ∷ why_text why ∷ []) (decimal_word id (valid)) (All-cons IsWord (codes "fault") (why_text why ∷ []) (word_from_test (codes "fault") refl) (All-cons IsWord (why_text why) ([]) (why_word why) (All-nil IsWord)))
-item_words-plain (Refused id) valid = All-cons IsWord (decimal id) (codes "refused" ∷ codes "range" ∷ []) (decimal_word id (valid)) (All-cons IsWord (codes "refused") (codes "range" ∷ []) (word_from_test (codes "refused") refl) (All-cons IsWord (codes "range") ([]) (word_from_test (codes "range") refl) (All-nil IsWord)))
+item_words-plain (Refused id why) valid = All-cons IsWord (decimal id) (codes "refused" ∷ limit_text why ∷ []) (decimal_word id (valid)) (All-cons IsWord (codes "refused") (limit_text why ∷ []) (word_from_test (codes "refused") refl) (All-cons IsWord (limit_text why) ([]) (limit_word why) (All-nil IsWord)))
 item_words-plain Cut valid = All-cons IsWord (codes "cut") ([]) (word_from_test (codes "cut") refl) (All-nil IsWord)
 item_words-plain (Lost id) valid = All-cons IsWord (decimal id) (codes "lost" ∷ []) (decimal_word id (valid)) (All-cons IsWord (codes "lost") ([]) (word_from_test (codes "lost") refl) (All-nil IsWord))
 item_words-plain On valid = All-cons IsWord (codes "on") ([]) (word_from_test (codes "on") refl) (All-nil IsWord)
@@ -110,7 +116,7 @@ item_words-some (Read id) none = cc
 item_words-some (Sector value) none = data_words-some value none
 item_words-some (Status id number) none = cc
 item_words-some (Fault id why) none = cc
-item_words-some (Refused id) none = cc
+item_words-some (Refused id why) none = cc
 item_words-some Cut none = cc
 item_words-some (Lost id) none = cc
 item_words-some On none = cc

@@ -19,6 +19,8 @@ use Rattle.storage_model.specs.declared.faults.Letter.{Letter}
 use Rattle.storage_model.specs.declared.trace.End.{End}
 use Rattle.storage_model.specs.declared.trace.Why.{Why}
 use Rattle.storage_model.specs.declared.trace.Item.{Item}
+use Rattle.storage_model.specs.declared.trace.Limit.{Limit}
+use Rattle.storage_model.specs.declared.trace.Limit.TheVariants.{Range, Align}
 use Rattle.storage_model.specs.declared.trace.Item.TheVariants.{Card, Issue, Params, Address, Poll, Phase, Discard, Bus, Flash, Recover, Irq, Done, Read, Sector, Status, Fault, Refused, Cut, Lost, On, Left, Turn, Off}
 use Rattle.text_words.specs.Words.{hex_byte, hex_word}
 use Rattle.text_words.proofs.Spellings.{decimal_low}
@@ -27,7 +29,7 @@ use Rattle.trace_text.specs.declared.keyword.Keyword.TheVariants.{Card as CardWo
 use Rattle.trace_text.specs.declared.keyword.Outcome.{Outcome}
 use Rattle.trace_text.specs.declared.keyword.Outcome.TheVariants.{Done as DoneOutcome, Read as ReadOutcome, Status as StatusOutcome, Fault as FaultOutcome, Refused as RefusedOutcome, Lost as LostOutcome}
 use Rattle.trace_text.specs.Names.{keyword_text, outcome_text}
-use Rattle.trace_text.specs.Trace.{IsBlock, IsItem, IsKind, data_words, end_text, id_text, is_one_byte, item_words, kept_words, kind_words, letter_text, lines_text, why_text}
+use Rattle.trace_text.specs.Trace.{IsBlock, IsItem, IsKind, data_words, end_text, id_text, is_one_byte, item_words, kept_words, kind_words, letter_text, limit_text, lines_text, why_text}
 
 -- a sector's words are `fill` and a byte, or one word of digits
 pub data_fill : (value : Block) → is_one_byte value.0 ≡ true → data_words value ≡ codes "fill" ∷ hex_byte (slice_index value.0 0) ∷ []
@@ -75,7 +77,7 @@ answer_of (Done id) = Some DoneOutcome
 answer_of (Read id) = Some ReadOutcome
 answer_of (Status id word) = Some StatusOutcome
 answer_of (Fault id why) = Some FaultOutcome
-answer_of (Refused id) = Some RefusedOutcome
+answer_of (Refused id why) = Some RefusedOutcome
 answer_of (Lost id) = Some LostOutcome
 answer_of _ = None
 
@@ -213,7 +215,7 @@ named keyword words (Read id) valid is = absurd ((name keyword).number id valid 
 named keyword words (Sector value) valid is = absurd (no_data value (keyword_text keyword) words valid (name keyword).fill (name keyword).digits is)
 named keyword words (Status id word) valid is = absurd ((name keyword).number id valid.0 (cc))
 named keyword words (Fault id why) valid is = absurd ((name keyword).number id valid (cc))
-named keyword words (Refused id) valid is = absurd ((name keyword).number id valid (cc))
+named keyword words (Refused id why) valid is = absurd ((name keyword).number id valid (cc))
 named keyword words Cut valid is = named_text keyword CutWord (cc)
 named keyword words (Lost id) valid is = absurd ((name keyword).number id valid (cc))
 named keyword words On valid is = named_text keyword OnWord (cc)
@@ -245,7 +247,7 @@ answered number words (Read id) fits valid is = record { outcome = ReadOutcome; 
 answered number words (Sector value) fits valid is = absurd (no_data value (decimal number) words valid (decimal_not_fill number fits) (decimal_short number fits) is)
 answered number words (Status id word) fits valid is = record { outcome = StatusOutcome; answer = refl; more = hex_word word ∷ []; parts = cc }
 answered number words (Fault id why) fits valid is = record { outcome = FaultOutcome; answer = refl; more = why_text why ∷ []; parts = cc }
-answered number words (Refused id) fits valid is = record { outcome = RefusedOutcome; answer = refl; more = codes "range" ∷ []; parts = cc }
+answered number words (Refused id why) fits valid is = record { outcome = RefusedOutcome; answer = refl; more = limit_text why ∷ []; parts = cc }
 answered number words Cut fits valid is = absurd ((name CutWord).number number fits (cc))
 answered number words (Lost id) fits valid is = record { outcome = LostOutcome; answer = refl; more = []; parts = cc }
 answered number words On fits valid is = absurd ((name OnWord).number number fits (cc))
@@ -338,8 +340,8 @@ pub no_answer_lost : (number : ℕ) (words : List (List ℕ)) → number < 2 ^ 3
 no_answer_lost number words fits none (Lost id) p = (let is = p.1 in none (cc))
 no_answer_lost number words fits none item p = (let other = answers number LostOutcome words item fits p.0 p.1 in cc)
 
-pub no_answer_refused : (number : ℕ) (words : List (List ℕ)) → number < 2 ^ 32 → words ≢ codes "range" ∷ [] → (item : Item) → ¬ (IsItem item × (decimal number ∷ codes "refused" ∷ words ≡ item_words item))
-no_answer_refused number words fits none (Refused id) p = (let is = p.1 in none (cc))
+pub no_answer_refused : (number : ℕ) (words : List (List ℕ)) → number < 2 ^ 32 → ((f : Limit) → ¬ (words ≡ limit_text f ∷ [])) → (item : Item) → ¬ (IsItem item × (decimal number ∷ codes "refused" ∷ words ≡ item_words item))
+no_answer_refused number words fits none (Refused id why) p = (let is = p.1 in none why (cc))
 no_answer_refused number words fits none item p = (let other = answers number RefusedOutcome words item fits p.0 p.1 in cc)
 
 pub no_answer_status : (number : ℕ) (words : List (List ℕ)) → number < 2 ^ 32 → ((n : ℕ) → ¬ ((n < 2 ^ 32) × (words ≡ hex_word n ∷ []))) → (item : Item) → ¬ (IsItem item × (decimal number ∷ codes "status" ∷ words ≡ item_words item))
@@ -378,7 +380,7 @@ no_other first words keyword number block (Read id) p = (let is = p.1 in number 
 no_other first words keyword number block (Sector value) p = block value p
 no_other first words keyword number block (Status id word) p = (let is = p.1 in number id (p.0.0, cc))
 no_other first words keyword number block (Fault id why) p = (let is = p.1 in number id (p.0, cc))
-no_other first words keyword number block (Refused id) p = (let is = p.1 in number id (p.0, cc))
+no_other first words keyword number block (Refused id why) p = (let is = p.1 in number id (p.0, cc))
 no_other first words keyword number block Cut p = (let is = p.1 in keyword CutWord (cc))
 no_other first words keyword number block (Lost id) p = (let is = p.1 in number id (p.0, cc))
 no_other first words keyword number block On p = (let is = p.1 in keyword OnWord (cc))

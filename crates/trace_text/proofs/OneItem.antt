@@ -17,6 +17,8 @@ use Rattle.storage_model.specs.declared.trace.End.TheVariants.{Good, Fault as Fa
 use Rattle.storage_model.specs.declared.trace.Why.{Why}
 use Rattle.storage_model.specs.declared.trace.Why.TheVariants.{Bus as BusFault, Flash as FlashFault}
 use Rattle.storage_model.specs.declared.trace.Item.{Item}
+use Rattle.storage_model.specs.declared.trace.Limit.{Limit}
+use Rattle.storage_model.specs.declared.trace.Limit.TheVariants.{Range, Align}
 use Rattle.storage_model.specs.declared.trace.Item.TheVariants.{Card, Issue, Params, Address, Poll, Phase, Discard, Bus, Flash, Recover, Irq, Done, Read, Sector, Status, Fault, Refused, Cut, Lost, On, Left, Turn, Off}
 use Rattle.text_words.specs.Words.{hex_word, spaced}
 use Rattle.text_words.proofs.Bytes.{encode_lower-injective, hex_byte-injective}
@@ -25,7 +27,7 @@ use Rattle.text_words.proofs.Spellings.{decimal_high, decimal_low}
 use Rattle.trace_text.specs.declared.keyword.Keyword.TheVariants.{Card as CardWord, Issue as IssueWord, Params as ParamsWord, Address as AddressWord, Poll as PollWord, Phase as PhaseWord, Discard as DiscardWord, Bus as BusWord, Flash as FlashWord, Recover as RecoverWord, Irq as IrqWord, Cut as CutWord, On as OnWord, Left as LeftWord, Turn as TurnWord, Off as OffWord}
 use Rattle.trace_text.specs.declared.keyword.Outcome.TheVariants.{Done as DoneOutcome, Read as ReadOutcome, Status as StatusOutcome, Fault as FaultOutcome, Refused as RefusedOutcome, Lost as LostOutcome}
 use Rattle.trace_text.specs.Names.{keyword_text}
-use Rattle.trace_text.specs.Trace.{IsBlock, IsItem, IsKind, data_words, end_text, id_text, is_one_byte, item_text, item_words, kept_words, kind_words, letter_text, lines_text, why_text}
+use Rattle.trace_text.specs.Trace.{IsBlock, IsItem, IsKind, data_words, end_text, id_text, is_one_byte, item_text, item_words, kept_words, kind_words, letter_text, limit_text, lines_text, why_text}
 use Rattle.trace_text.proofs.ItemWords.{answers, data_digits, data_fill, decimal_not_fill, decimal_short, either, name, named, no_data}
 use Rattle.trace_text.proofs.ItemTexts.{item_line, item_text-line, item_words-plain, words_from_line, words_of-item}
 
@@ -64,6 +66,12 @@ same_why BusFault BusFault e = refl
 same_why BusFault FlashFault e = absurd (omega (arith, ap (λ w. slice_index w 0) e))
 same_why FlashFault BusFault e = absurd (omega (arith, ap (λ w. slice_index w 0) e))
 same_why FlashFault FlashFault e = refl
+
+same_limit : (limit other : Limit) → limit_text limit ≡ limit_text other → limit ≡ other
+same_limit Range Range e = refl
+same_limit Range Align e = absurd (omega (arith, ap (λ w. slice_index w 0) e))
+same_limit Align Range e = absurd (omega (arith, ap (λ w. slice_index w 0) e))
+same_limit Align Align e = refl
 
 same_letter : (letter other : Letter) → letter_text letter ≡ letter_text other → letter ≡ other
 same_letter Host Host e = refl
@@ -184,7 +192,7 @@ sector_of value (Read id) block sound is = absurd (no_data value (decimal id) _ 
 sector_of value (Sector also) block sound is = refl
 sector_of value (Status id word) block sound is = absurd (no_data value (decimal id) _ block (decimal_not_fill id sound.0) (decimal_short id sound.0) (sym is))
 sector_of value (Fault id why) block sound is = absurd (no_data value (decimal id) _ block (decimal_not_fill id sound) (decimal_short id sound) (sym is))
-sector_of value (Refused id) block sound is = absurd (no_data value (decimal id) _ block (decimal_not_fill id sound) (decimal_short id sound) (sym is))
+sector_of value (Refused id why) block sound is = absurd (no_data value (decimal id) _ block (decimal_not_fill id sound) (decimal_short id sound) (sym is))
 sector_of value Cut block sound is = absurd (no_data value (keyword_text CutWord) _ block (name CutWord).fill (name CutWord).digits (sym is))
 sector_of value (Lost id) block sound is = absurd (no_data value (decimal id) _ block (decimal_not_fill id sound) (decimal_short id sound) (sym is))
 sector_of value On block sound is = absurd (no_data value (keyword_text OnWord) _ block (name OnWord).fill (name OnWord).digits (sym is))
@@ -298,11 +306,12 @@ same_item_fault id why (Fault id2 why2) valid sound is =
     cc
 same_item_fault id why other valid sound is = (let found = answers id FaultOutcome _ other valid sound is in cc)
 
-same_item_refused : (id : ℕ) (other : Item) → IsItem (Refused id) → IsItem other → item_words (Refused id) ≡ item_words other → (Refused id) ≡ other
-same_item_refused id (Refused id2) valid sound is =
+same_item_refused : (id : ℕ) (why : Limit) (other : Item) → IsItem (Refused id why) → IsItem other → item_words (Refused id why) ≡ item_words other → (Refused id why) ≡ other
+same_item_refused id why (Refused id2 why2) valid sound is =
     let e0 = decimal_injective id id2 (omega (arith, valid)) (omega (arith, sound)) (cc) in
+    let e1 = same_limit why why2 (cc) in
     cc
-same_item_refused id other valid sound is = (let found = answers id RefusedOutcome _ other valid sound is in cc)
+same_item_refused id why other valid sound is = (let found = answers id RefusedOutcome _ other valid sound is in cc)
 
 same_item_cut : (other : Item) → IsItem other → item_words Cut ≡ item_words other → Cut ≡ other
 same_item_cut Cut sound is = refl
@@ -355,7 +364,7 @@ same_item (Read id) other valid sound is = same_item_read id other valid sound i
 same_item (Sector value) other valid sound is = same_item_sector value other valid sound is
 same_item (Status id word) other valid sound is = same_item_status id word other valid sound is
 same_item (Fault id why) other valid sound is = same_item_fault id why other valid sound is
-same_item (Refused id) other valid sound is = same_item_refused id other valid sound is
+same_item (Refused id why) other valid sound is = same_item_refused id why other valid sound is
 same_item Cut other valid sound is = same_item_cut other sound is
 same_item (Lost id) other valid sound is = same_item_lost id other valid sound is
 same_item On other valid sound is = same_item_on other sound is

@@ -12,6 +12,8 @@ use Rattle.storage_model.specs.declared.faults.Letter.{Letter}
 use Rattle.storage_model.specs.declared.faults.Letter.TheVariants.{Host, Engine, Card as CardLetter, Cut as CutLetter}
 use Rattle.storage_model.specs.declared.trace.End.{End}
 use Rattle.storage_model.specs.declared.trace.End.TheVariants.{Good, Fault as FaultEnd, Dead, Image}
+use Rattle.storage_model.specs.declared.trace.Limit.{Limit}
+use Rattle.storage_model.specs.declared.trace.Limit.TheVariants.{Range, Align}
 use Rattle.storage_model.specs.declared.trace.Why.{Why}
 use Rattle.storage_model.specs.declared.trace.Why.TheVariants.{Bus as BusFault, Flash as FlashFault}
 use Rattle.storage_model.specs.declared.trace.Item.{Item}
@@ -43,6 +45,11 @@ kind_words Late id = codes "late" ∷ id_text id ∷ []
 abbrev pub why_text : Why → List ℕ
 why_text BusFault = codes "bus"
 why_text FlashFault = codes "flash"
+
+-- what a refused request passed
+abbrev pub limit_text : Limit → List ℕ
+limit_text Range = codes "range"
+limit_text Align = codes "align"
 
 abbrev pub letter_text : Letter → List ℕ
 letter_text Host = codes "h"
@@ -78,7 +85,7 @@ item_words (Read id) = decimal id ∷ codes "data" ∷ []
 item_words (Sector value) = data_words value
 item_words (Status id number) = decimal id ∷ codes "status" ∷ hex_word number ∷ []
 item_words (Fault id why) = decimal id ∷ codes "fault" ∷ why_text why ∷ []
-item_words (Refused id) = decimal id ∷ codes "refused" ∷ codes "range" ∷ []
+item_words (Refused id why) = decimal id ∷ codes "refused" ∷ limit_text why ∷ []
 item_words Cut = codes "cut" ∷ []
 item_words (Lost id) = decimal id ∷ codes "lost" ∷ []
 item_words On = codes "on" ∷ []
@@ -121,7 +128,7 @@ IsItem (Read id) = id < 2 ^ 32
 IsItem (Sector value) = IsBlock value
 IsItem (Status id number) = (id < 2 ^ 32) × (number < 2 ^ 32)
 IsItem (Fault id why) = id < 2 ^ 32
-IsItem (Refused id) = id < 2 ^ 32
+IsItem (Refused id why) = id < 2 ^ 32
 IsItem Cut = Unit {0}
 IsItem (Lost id) = id < 2 ^ 32
 IsItem On = Unit {0}

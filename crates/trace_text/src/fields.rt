@@ -1,11 +1,11 @@
 // What stands in a line after the word that names it.
-ghost use Rattle.std.specs.Prelude.{◌≡◌, ◌≢◌, ◌∷◌, [], ◌^◌, ◌<◌, IfSome, IsTrue, ◌↔◌, codes, decimal};
+ghost use Rattle.std.specs.Prelude.{◌≡◌, ◌≢◌, ◌∷◌, [], ◌^◌, ◌<◌, IfSome, codes, decimal};
 ghost use Rattle.text_words.specs.Reads.{Reads};
 ghost use Rattle.text_words.specs.Words.{hex_byte, hex_word};
-ghost use Rattle.trace_text.specs.Trace.{IsBlock, IsKind, data_words, end_text, id_text, kept_words, kind_words, letter_text, lines_text, why_text};
+ghost use Rattle.trace_text.specs.Trace.{IsBlock, IsKind, data_words, end_text, id_text, kept_words, kind_words, letter_text, limit_text, lines_text, why_text};
 
 use crate::line::one_byte;
-use storage_model::{Block, BusKind, End, Letter, Why};
+use storage_model::{Block, BusKind, End, Letter, Limit, Why};
 use text_words::{
     Words, read_decimal, read_decimal_in, read_hex_byte, read_hex_bytes, read_hex_word,
 };
@@ -203,13 +203,21 @@ fn why(word: &[u8]) -> Option<Why>
     }
 }
 
-/// Whether `range` is left, and no more.
-pub fn is_range(mut words: Words) -> bool
-    ensures { IsTrue result ↔ (words.entry ≡ codes "range" ∷ []) }
+pub fn last_limit(mut words: Words) -> Option<Limit>
+    ensures { Reads result (λ limit. words.entry ≡ limit_text limit ∷ []) }
 {
-    match words.next() {
-        Some(b"range") => words.end().is_some(),
-        _ => false,
+    let limit = limit(words.next()?)?;
+    words.end()?;
+    Some(limit)
+}
+
+fn limit(word: &[u8]) -> Option<Limit>
+    ensures { Reads result (λ limit. word.now ≡ limit_text limit) }
+{
+    match word {
+        b"range" => Some(Limit::Range),
+        b"align" => Some(Limit::Align),
+        _ => None,
     }
 }
 

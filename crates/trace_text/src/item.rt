@@ -6,7 +6,7 @@ ghost use Rattle.trace_text.specs.Names.{keyword_text, outcome_text};
 ghost use Rattle.trace_text.specs.Trace.{IsItem, item_words};
 
 use crate::fields::{
-    bus_fields, data, geometry, is_range, last_end, last_hex, last_id, last_letter, last_why,
+    bus_fields, data, geometry, last_end, last_hex, last_id, last_letter, last_limit, last_why,
     number, number_and_data, number_and_hex, phase_fields, tagged, two_numbers,
 };
 use crate::keyword::{Keyword, Outcome, read_keyword, read_outcome};
@@ -234,8 +234,6 @@ fn fault(id: u32, words: Words) -> Option<Item>
 fn refused(id: u32, words: Words) -> Option<Item>
     ensures { Reads result (λ item. IsItem item × (decimal id ∷ codes "refused" ∷ words.entry ≡ item_words item)) }
 {
-    if !is_range(words) {
-        return None;
-    }
-    Some(Item::Refused { id })
+    let why = last_limit(words)?;
+    Some(Item::Refused { id, why })
 }

@@ -10,6 +10,3 @@ mod write;
 
 pub use read::read_items;
 pub use write::put_item;
-
-#[cfg(test)]
-mod tests;

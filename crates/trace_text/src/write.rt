@@ -4,11 +4,11 @@ ghost use Rattle.io_edge.specs.Sink.{Wrote};
 ghost use Rattle.arrayvec.specs.ArrayVec.{array_vec_len};
 ghost use Rattle.text_words.specs.Words.{hex_word, spaced};
 ghost use Rattle.trace_text.specs.Line.{word};
-ghost use Rattle.trace_text.specs.Trace.{data_words, lines_text, id_text, kind_words, why_text, letter_text, end_text, kept_words, item_words, item_text};
+ghost use Rattle.trace_text.specs.Trace.{data_words, lines_text, id_text, kind_words, limit_text, why_text, letter_text, end_text, kept_words, item_words, item_text};
 
 use crate::line::Line;
 use io_edge::{Failed, Sink, put_all};
-use storage_model::{Block, BusKind, End, Item, Letter, Why};
+use storage_model::{Block, BusKind, End, Item, Letter, Limit, Why};
 
 /// Writes the line of an item, with its line feed, as one piece. After `Failed` a part of it was taken.
 pub fn put_item<K: Sink>(item: &Item, out: &mut K) -> Result<(), Failed>
@@ -54,7 +54,7 @@ fn words_of(item: &Item) -> Line
         Item::Sector { value } => Line::of_data(value),
         Item::Status { id, word } => status(*id, *word),
         Item::Fault { id, why } => fault(*id, *why),
-        Item::Refused { id } => refused(*id),
+        Item::Refused { id, why } => refused(*id, *why),
         Item::Cut => Line::of(b"cut"),
         Item::Lost { id } => answer(*id, b"lost"),
         Item::On => Line::of(b"on"),
@@ -175,12 +175,15 @@ fn fault(id: u32, why: Why) -> Line
     line
 }
 
-fn refused(id: u32) -> Line
-    ensures text { result.text.items ≡ decimal id ++ word (codes "refused") ++ word (codes "range") }
+fn refused(id: u32, why: Limit) -> Line
+    ensures text { result.text.items ≡ decimal id ++ word (codes "refused") ++ word (limit_text why) }
     ensures len { array_vec_len result.text ≤ 240 }
 {
     let mut line = answer(id, b"refused");
-    line.word(b"range");
+    match why {
+        Limit::Range => line.word(b"range"),
+        Limit::Align => line.word(b"align"),
+    }
     line
 }
 
