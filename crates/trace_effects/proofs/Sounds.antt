@@ -155,7 +155,7 @@ effect_keeps s (Status id word) = record { plan = refl; sectors = refl }
 effect_keeps s Recover = record { plan = refl; sectors = refl }
 effect_keeps s (Discard n) = record { plan = refl; sectors = refl }
 effect_keeps s (Fault id why) = record { plan = refl; sectors = refl }
-effect_keeps s (Refused id) = record { plan = refl; sectors = refl }
+effect_keeps s (Refused id why) = record { plan = refl; sectors = refl }
 effect_keeps s Cut = cut_keeps s s.owed
 effect_keeps s (Lost id) = record { plan = refl; sectors = refl }
 effect_keeps s On = from_keeps s (next_left s.pend 0)

@@ -47,7 +47,7 @@ pub fn apply(s: &mut State, alloc: Global, item: &Item) -> Result<(), NoMemory>
         Item::Sector { .. } => after_sector(s, alloc),
         Item::Recover => after_recover(s, alloc),
         Item::Discard { n } => after_discard(s, *n),
-        Item::Fault { id, .. } | Item::Refused { id } => after_fault(s, *id),
+        Item::Fault { id, .. } | Item::Refused { id, .. } => after_fault(s, *id),
         Item::Cut => after_cut(s, alloc),
         Item::Lost { id } => after_lost(s, alloc, *id),
         Item::On => return after_on(s, alloc),

@@ -28,6 +28,7 @@ use Rattle.storage_model.specs.declared.faults.Letter.TheVariants.{Host as HostA
 use Rattle.storage_model.specs.declared.trace.End.{End}
 use Rattle.storage_model.specs.declared.trace.End.TheVariants.{Good, Fault as FaultEnd, Dead, Image}
 use Rattle.storage_model.specs.declared.trace.Item.{Item}
+use Rattle.storage_model.specs.declared.trace.Limit.TheVariants.{Range as PastRange, Align}
 use Rattle.storage_model.specs.declared.trace.Item.TheVariants.{Card, Issue, Params, Address, Poll, Phase, Discard, Bus, Flash, Recover, Irq, Done, Read, Sector, Status, Fault, Refused, Cut, Lost, On, Left, Turn, Off}
 use Rattle.storage_model.specs.declared.trace.Why.{Why}
 use Rattle.storage_model.specs.declared.trace.Why.TheVariants.{Bus as ByBus, Flash as ByFlash}
@@ -51,7 +52,7 @@ rule_of (Status id word) = 8
 rule_of Recover = 9
 rule_of (Discard n) = 9
 rule_of (Fault id why) = 9
-rule_of (Refused id) = 9
+rule_of (Refused id why) = 9
 rule_of Cut = 10
 rule_of (Lost id) = 10
 rule_of On = 10
@@ -345,7 +346,8 @@ holds s (Status id word) = status_holds s id word
 holds s Recover = recover_holds s
 holds s (Discard n) = discard_holds s n
 holds s (Fault id why) = fault_holds s id why
-holds s (Refused id) = refused_holds s id
+holds s (Refused id PastRange) = refused_holds s id
+holds s (Refused id Align) = false
 holds s Cut = cut_holds s
 holds s (Lost id) = lost_holds s id
 holds s On = on_holds s

@@ -38,7 +38,7 @@ abbrev pub is_line_of : Letter → Bool → Item → Bool
 is_line_of HostActs calm (Issue id tag) = true
 is_line_of HostActs calm (Irq mask) = true
 is_line_of HostActs calm (Fault id why) = true
-is_line_of HostActs calm (Refused id) = true
+is_line_of HostActs calm (Refused id why) = true
 is_line_of HostActs calm Recover = true
 is_line_of HostActs calm (Discard n) = true
 is_line_of HostActs calm (Bus n kind id) = not calm

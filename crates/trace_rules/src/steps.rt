@@ -20,7 +20,7 @@ use storage_machine::cuts::{has_own_line, shows};
 use storage_machine::host::{is_irq_due, next_issue};
 use storage_machine::jobs::{is_direct, job_of};
 use storage_machine::{Event, Owed, Recovery, State};
-use storage_model::{Item, Letter};
+use storage_model::{Item, Letter, Limit};
 
 /// Whether a line's own rule holds.
 #[tactic(auto, unfolding(crate::specs::Lines::holds))]
@@ -49,7 +49,13 @@ pub fn holds(s: &State, item: &Item) -> bool
         Item::Recover => recover_holds(s),
         Item::Discard { n } => discard_holds(s, *n),
         Item::Fault { id, why } => fault_holds(s, *id, *why),
-        Item::Refused { id } => refused_holds(s, *id),
+        Item::Refused {
+            id,
+            why: Limit::Range,
+        } => refused_holds(s, *id),
+        Item::Refused {
+            why: Limit::Align, ..
+        } => false,
         Item::Cut => cut_holds(s),
         Item::Lost { id } => lost_holds(s, *id),
         Item::On => on_holds(s),
