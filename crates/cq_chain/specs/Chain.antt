@@ -8,6 +8,10 @@ use Rattle.cq_chain.specs.declared.fault.ChainFault.{ChainFault}
 use Rattle.cq_chain.specs.declared.fault.ChainFault.TheVariants.{Hole, NotValid, BadAct, Long, Short, TooMany}
 use Rattle.cq_chain.specs.Descriptors.{size_of, Reads, pieces_of, ends, next, bytes_in, AreInside}
 
+-- the most descriptors of a chain
+abbrev pub longest_chain : ℕ
+longest_chain = 512
+
 -- these descriptors stand in the memory one after the other from an address on, links followed, and then the chain goes on at `to`
 unfoldable pub Reaches : Memory → Bool → (at : ℕ) → List Xfer → (to : ℕ) → Type 0
 Reaches memory wide at [] to = at ≡ to

@@ -3,7 +3,7 @@ ghost use Rattle.host_mem.specs.Memory.{HasRange};
 ghost use Rattle.cq_chain.specs.declared.fault.ChainFault.{ChainFault};
 ghost use Rattle.cq_chain.specs.declared.pieces.Piece.{Piece};
 ghost use Rattle.cq_chain.specs.Descriptors.{AreNotEmpty, Reads, ends, next, pieces_of, size_of, word_at};
-ghost use Rattle.cq_chain.specs.Chain.{HasFault, HasPieces};
+ghost use Rattle.cq_chain.specs.Chain.{HasFault, HasPieces, longest_chain};
 ghost use Rattle.cq_chain.specs.Steps.{left_after, read_at};
 
 use crate::{ChainFault, LONGEST_CHAIN, Pieces};
@@ -19,8 +19,8 @@ use host_mem::HostMem;
 /// `BadAct`; not all of its piece is in the memory (`Hole`); its piece is longer than what is still wanted (`Long`);
 /// it ends the chain and more is wanted (`Short`). No byte is at 2^64 or above.
 pub fn walk(mem: &HostMem, at: u64, want: u32, wide: bool) -> Result<Pieces, ChainFault>
-    ensures pieces { (pieces : List Piece) → (result ≡ Ok pieces) ↔ HasPieces mem.now wide LONGEST_CHAIN at want pieces }
-    ensures fault { (fault : ChainFault) → (result ≡ Err fault) ↔ HasFault mem.now wide LONGEST_CHAIN at want fault }
+    ensures pieces { (pieces : List Piece) → (result ≡ Ok pieces) ↔ HasPieces mem.now wide longest_chain at want pieces }
+    ensures fault { (fault : ChainFault) → (result ≡ Err fault) ↔ HasFault mem.now wide longest_chain at want fault }
 {
     let mut pieces = Pieces::new();
     let mut left = want;

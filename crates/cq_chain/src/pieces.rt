@@ -1,4 +1,5 @@
 ghost use Rattle.std.specs.Prelude.{◌≡◌, ◌<◌, ◌≤◌, [], ◌∷◌, ◌++◌, ◌==◌, length};
+ghost use Rattle.cq_chain.specs.Chain.{longest_chain};
 ghost use Rattle.cq_chain.specs.Descriptors.{pieces_of};
 
 use arrayvec::ArrayVec;
@@ -43,7 +44,7 @@ impl Pieces {
     /// How many pieces there are.
     pub fn len(&self) -> usize
         ensures value { result ≡ length self.now }
-        ensures most { result ≤ LONGEST_CHAIN }
+        ensures most { result ≤ longest_chain }
     {
         self.pieces.len()
     }
@@ -58,7 +59,7 @@ impl Pieces {
     /// The pieces in their order.
     pub fn as_slice(&self) -> &[Piece]
         ensures value { result.now ≡ self.now }
-        ensures most { length result.now ≤ LONGEST_CHAIN }
+        ensures most { length result.now ≤ longest_chain }
     {
         self.pieces.as_slice()
     }

@@ -3,7 +3,7 @@ use Rattle.std.proofs.Common.{◌≡◌, ◌≢◌, ℕ, Bool, true, false, ◌&
 use Rattle.std.specs.Prelude.{◌==◌}
 use Rattle.std.proofs.lemmas.Bool.{ne_eqb}
 use Rattle.cq_words.specs.Table.{number_in, is_set, Holds}
-use Rattle.cq_desc.specs.declared.layout.TheConstants.{VALID, INT, ACT, ACT_TASK, QUEUE_BARRIER, COMMAND_TIMING, RESPONSE_TYPE, RESPONSE_RESERVED}
+use Rattle.cq_desc.specs.Fields.{VALID, INT, ACT, ACT_TASK, QUEUE_BARRIER, COMMAND_TIMING, RESPONSE_TYPE, RESPONSE_RESERVED}
 use Rattle.cq_desc.specs.declared.direct.DirectDesc.{DirectDesc}
 use Rattle.cq_desc.specs.Descriptor.{bit}
 use Rattle.cq_desc.specs.Direct.{direct_table, direct_of, direct_read, is_direct}

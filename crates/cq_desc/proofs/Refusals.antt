@@ -1,7 +1,7 @@
 -- The refusals, in their order, and what is read where there is none.
 use Rattle.std.proofs.Common.{◌≡◌, ℕ, Bool, true, false, Ok, Err}
 use Rattle.cq_words.specs.Table.{is_set}
-use Rattle.cq_desc.specs.declared.layout.TheConstants.{VALID}
+use Rattle.cq_desc.specs.Fields.{VALID}
 use Rattle.cq_desc.specs.declared.fault.DescFault.TheVariants.{NotValid, BadAct}
 use Rattle.cq_desc.specs.Descriptor.{judged}
 

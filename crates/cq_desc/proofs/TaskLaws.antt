@@ -2,7 +2,7 @@
 use Rattle.std.proofs.Common.{◌≡◌, ℕ, true, refl, ap, ◌∙◌, Ok}
 use Rattle.std.specs.Prelude.{◌==◌}
 use Rattle.cq_words.specs.Table.{number_in, is_set, is_table, Holds}
-use Rattle.cq_desc.specs.declared.layout.TheConstants.{VALID, INT, ACT, ACT_TASK, FORCED_PROGRAMMING, TAG_REQUEST, DIRECTION, PRIORITY, QUEUE_BARRIER, RELIABLE_WRITE}
+use Rattle.cq_desc.specs.Fields.{VALID, INT, ACT, ACT_TASK, FORCED_PROGRAMMING, TAG_REQUEST, DIRECTION, PRIORITY, QUEUE_BARRIER, RELIABLE_WRITE}
 use Rattle.cq_desc.specs.declared.task.TaskDesc.{TaskDesc}
 use Rattle.cq_desc.specs.Descriptor.{bit}
 use Rattle.cq_desc.specs.Task.{task_table, written_task, task_of, task_read}

@@ -6,7 +6,7 @@ use Rattle.std.proofs.lemmas.Bool.{ne_eqb}
 use Rattle.std.proofs.lemmas.Bool.Decides.{eqb_tells}
 use Rattle.cq_words.specs.Table.{number_in, is_set, Holds}
 use Rattle.cq_words.proofs.FieldLaws.{field_of-lt}
-use Rattle.cq_desc.specs.declared.layout.TheConstants.{VALID, END, INT, ACT, ACT_NOP, ACT_TRANSFER, ACT_LINK, DATA_LENGTH, DATA_ADDRESS, DATA_ADDRESS_HIGH, LONGEST_PIECE}
+use Rattle.cq_desc.specs.Fields.{VALID, END, INT, ACT, ACT_NOP, ACT_TRANSFER, ACT_LINK, DATA_LENGTH, DATA_ADDRESS, DATA_ADDRESS_HIGH, LONGEST_PIECE}
 use Rattle.cq_desc.specs.declared.fault.DescFault.TheVariants.{NotValid, BadAct}
 use Rattle.cq_desc.specs.declared.xfer.Xfer.{Xfer}
 use Rattle.cq_desc.specs.declared.xfer.Xfer.TheVariants.{Piece, Link, Nop}

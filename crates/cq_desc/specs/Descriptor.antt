@@ -4,7 +4,7 @@ use Rattle.std.specs.Prelude.{ℕ, Bool, if◌then◌else◌, Result, Ok, Err}
 use Rattle.cq_words.specs.declared.table.BitField.{BitField}
 use Rattle.cq_words.specs.declared.table.FieldValue.{FieldValue}
 use Rattle.cq_words.specs.Table.{is_set}
-use Rattle.cq_desc.specs.declared.layout.TheConstants.{VALID}
+use Rattle.cq_desc.specs.Fields.{VALID}
 use Rattle.cq_desc.specs.declared.fault.DescFault.{DescFault}
 use Rattle.cq_desc.specs.declared.fault.DescFault.TheVariants.{NotValid, BadAct}
 

@@ -3,7 +3,7 @@
 use Rattle.std.specs.Prelude.{◌≢◌, ◌<◌, ℕ, List, [], ◌∷◌, ◌==◌, ◌&&◌, not, Bool, Result}
 use Rattle.cq_words.specs.declared.table.FieldValue.{FieldValue}
 use Rattle.cq_words.specs.Table.{number_in, is_set}
-use Rattle.cq_desc.specs.declared.layout.TheConstants.{VALID, END, INT, ACT, ACT_TASK, QUEUE_BARRIER, COMMAND_INDEX, COMMAND_TIMING, RESPONSE_TYPE, COMMAND_ARGUMENT, RESPONSE_RESERVED}
+use Rattle.cq_desc.specs.Fields.{VALID, END, INT, ACT, ACT_TASK, QUEUE_BARRIER, COMMAND_INDEX, COMMAND_TIMING, RESPONSE_TYPE, COMMAND_ARGUMENT, RESPONSE_RESERVED}
 use Rattle.cq_desc.specs.declared.fault.DescFault.{DescFault}
 use Rattle.cq_desc.specs.declared.direct.DirectDesc.{DirectDesc}
 use Rattle.cq_desc.specs.Descriptor.{at, bit, judged}

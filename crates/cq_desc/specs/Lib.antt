@@ -1,3 +1,4 @@
+pub mod Fields
 pub mod Descriptor
 pub mod Direct
 pub mod Task

@@ -3,7 +3,7 @@
 use Rattle.std.specs.Prelude.{ℕ, List, [], ◌∷◌, ◌==◌, Result}
 use Rattle.cq_words.specs.declared.table.FieldValue.{FieldValue}
 use Rattle.cq_words.specs.Table.{number_in, is_set}
-use Rattle.cq_desc.specs.declared.layout.TheConstants.{VALID, END, INT, ACT, ACT_TASK, FORCED_PROGRAMMING, CONTEXT, TAG_REQUEST, DIRECTION, PRIORITY, QUEUE_BARRIER, RELIABLE_WRITE, BLOCK_COUNT, BLOCK_ADDRESS}
+use Rattle.cq_desc.specs.Fields.{VALID, END, INT, ACT, ACT_TASK, FORCED_PROGRAMMING, CONTEXT, TAG_REQUEST, DIRECTION, PRIORITY, QUEUE_BARRIER, RELIABLE_WRITE, BLOCK_COUNT, BLOCK_ADDRESS}
 use Rattle.cq_desc.specs.declared.fault.DescFault.{DescFault}
 use Rattle.cq_desc.specs.declared.task.TaskDesc.{TaskDesc}
 use Rattle.cq_desc.specs.Descriptor.{at, bit, judged}

@@ -3,7 +3,7 @@
 use Rattle.std.specs.Prelude.{◌≡◌, ◌<◌, ◌≤◌, ℕ, ◌+◌, ◌*◌, ◌/◌, ◌%◌, ◌^◌, List, [], ◌∷◌, ◌==◌, ◌||◌, Bool, false, if◌then◌else◌, Result}
 use Rattle.cq_words.specs.declared.table.FieldValue.{FieldValue}
 use Rattle.cq_words.specs.Table.{number_in, is_set}
-use Rattle.cq_desc.specs.declared.layout.TheConstants.{VALID, END, INT, ACT, ACT_NOP, ACT_TRANSFER, ACT_LINK, DATA_LENGTH, DATA_ADDRESS, DATA_ADDRESS_HIGH, LONGEST_PIECE}
+use Rattle.cq_desc.specs.Fields.{VALID, END, INT, ACT, ACT_NOP, ACT_TRANSFER, ACT_LINK, DATA_LENGTH, DATA_ADDRESS, DATA_ADDRESS_HIGH, LONGEST_PIECE}
 use Rattle.cq_desc.specs.declared.fault.DescFault.{DescFault}
 use Rattle.cq_desc.specs.declared.xfer.Xfer.{Xfer}
 use Rattle.cq_desc.specs.declared.xfer.Xfer.TheVariants.{Piece, Link, Nop}

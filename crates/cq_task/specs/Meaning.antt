@@ -8,16 +8,14 @@ use Rattle.cq_desc.specs.Direct.{direct_read}
 use Rattle.cq_desc.specs.Task.{task_read}
 use Rattle.cq_chain.specs.declared.fault.ChainFault.{ChainFault}
 use Rattle.cq_chain.specs.declared.fault.ChainFault.TheVariants.{Hole}
-use Rattle.cq_chain.specs.declared.pieces.TheConstants.{LONGEST_CHAIN}
 use Rattle.cq_chain.specs.Descriptors.{size_of}
-use Rattle.cq_chain.specs.Chain.{HasPieces, HasFault}
+use Rattle.cq_chain.specs.Chain.{HasPieces, HasFault, longest_chain}
 use Rattle.cq_task.specs.declared.list.TaskList.{TaskList}
-use Rattle.cq_task.specs.declared.slot.TheConstants.{BLOCK_BYTES}
 use Rattle.cq_task.specs.declared.slot.SlotTask.{SlotTask}
 use Rattle.cq_task.specs.declared.slot.SlotTask.TheVariants.{Direct, Data}
 use Rattle.cq_task.specs.declared.slot.DropCause.{DropCause}
 use Rattle.cq_task.specs.declared.slot.DropCause.TheVariants.{Task, Chain}
-use Rattle.cq_task.specs.Place.{place_of, chain_of, first_word, is_direct}
+use Rattle.cq_task.specs.Place.{block_bytes, place_of, chain_of, first_word, is_direct}
 
 -- all of the first descriptor is in the memory, below 2^64
 pub record HasFirst (memory : Memory) (list : TaskList) (slot : ℕ) : Type 0 where
@@ -35,13 +33,13 @@ MeansDirect word (Err (Chain fault)) = ⊥
 pub record HasBadChain (memory : Memory) (wide : Bool) (word chain : ℕ) (fault : ChainFault) : Type 0 where
   pub desc : TaskDesc
   pub reads : task_read word ≡ Ok desc
-  pub bad : HasFault memory wide LONGEST_CHAIN chain (desc.blocks * BLOCK_BYTES) fault
+  pub bad : HasFault memory wide longest_chain chain (desc.blocks * block_bytes) fault
 
 -- a data task is its word, and the pieces of its chain for the bytes of its blocks
 abbrev pub MeansData : Memory → Bool → (word chain : ℕ) → Result SlotTask DropCause → Type 0
 MeansData memory wide word chain (Ok (Direct desc)) = ⊥
 MeansData memory wide word chain (Ok (Data task)) =
-    (task_read word ≡ Ok task.desc) × HasPieces memory wide LONGEST_CHAIN chain (task.desc.blocks * BLOCK_BYTES) task.pieces
+    (task_read word ≡ Ok task.desc) × HasPieces memory wide longest_chain chain (task.desc.blocks * block_bytes) task.pieces
 MeansData memory wide word chain (Err (Task fault)) = task_read word ≡ Err fault
 MeansData memory wide word chain (Err (Chain fault)) = HasBadChain memory wide word chain fault
 

@@ -4,7 +4,20 @@ use Rattle.std.specs.Prelude.{ℕ, ◌+◌, ◌*◌, ◌==◌, ◌&&◌, Bool}
 use Rattle.host_mem.specs.Memory.{Memory}
 use Rattle.cq_chain.specs.Descriptors.{size_of, word_at}
 use Rattle.cq_task.specs.declared.list.TaskList.{TaskList}
-use Rattle.cq_task.specs.declared.list.TheConstants.{DIRECT_SLOT}
+use Rattle.cq_words.specs.Table.{is_set}
+use Rattle.cq_desc.specs.Fields.{field}
+
+-- CQHCI_TASK_DESC_SZ, bit 8 of the register CQCFG: descriptors of 128 bits
+abbrev pub are_wide : ℕ → Bool
+are_wide configuration = is_set configuration (field 8 1)
+
+-- CQHCI_DCMD, bit 12 of the register CQCFG: direct commands are enabled
+abbrev pub are_direct : ℕ → Bool
+are_direct configuration = is_set configuration (field 12 1)
+
+-- the bytes of a block
+abbrev pub block_bytes : ℕ
+block_bytes = 512
 
 -- a slot is two descriptors
 abbrev pub place_of : TaskList → ℕ → ℕ
@@ -18,5 +31,9 @@ chain_of list slot = place_of list slot + size_of list.wide
 abbrev pub first_word : Memory → TaskList → ℕ → ℕ
 first_word memory list slot = word_at memory (place_of list slot)
 
+-- the slot that holds a direct command, where these are enabled
+abbrev pub direct_slot : ℕ
+direct_slot = 31
+
 abbrev pub is_direct : TaskList → ℕ → Bool
-is_direct list slot = list.direct && (slot == DIRECT_SLOT)
+is_direct list slot = list.direct && (slot == direct_slot)

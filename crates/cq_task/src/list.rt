@@ -1,6 +1,5 @@
 ghost use Rattle.std.specs.Prelude.{◌≡◌, ◌↔◌, ◌+◌, ◌*◌, ◌<◌, ◌≤◌, ◌^◌, IfSome, IsNone};
-ghost use Rattle.cq_words.specs.Table.{is_set};
-ghost use Rattle.cq_task.specs.Place.{is_direct, place_of};
+ghost use Rattle.cq_task.specs.Place.{are_direct, are_wide, is_direct, place_of};
 
 use cq_words::BitField;
 
@@ -31,8 +30,8 @@ impl TaskList {
     /// The list that the registers CQTDLBA, CQTDLBAU and CQCFG name.
     pub fn of_registers(tdlba: u32, tdlbau: u32, cfg: u32) -> TaskList
         ensures base { result.base ≡ tdlbau * 2 ^ 32 + tdlba }
-        ensures wide { result.wide ≡ is_set cfg WIDE_DESCRIPTORS }
-        ensures direct { result.direct ≡ is_set cfg DIRECT_COMMANDS }
+        ensures wide { result.wide ≡ are_wide cfg }
+        ensures direct { result.direct ≡ are_direct cfg }
     {
         TaskList {
             base: (u64::from(tdlbau) << 32) + u64::from(tdlba),

@@ -1,7 +1,7 @@
 use Rattle.std.proofs.Common.{sym, ap, subst, ◌∙◌, eq-eqb, Ok}
 use Rattle.std.proofs.lemmas.Bool.{ne_eqb}
 use Rattle.cq_words.specs.Table.{number_in, Holds}
-use Rattle.cq_desc.specs.declared.layout.TheConstants.{ACT, ACT_TASK}
+use Rattle.cq_desc.specs.Fields.{ACT, ACT_TASK}
 use Rattle.cq_desc.specs.declared.task.TaskDesc.{TaskDesc}
 use Rattle.cq_desc.specs.Task.{task_read, task_table}
 use Rattle.cq_desc.proofs.Refusals.{judged-not_valid, judged-bad_act, judged-good}

@@ -1,6 +1,6 @@
 use Rattle.std.proofs.Common.{sym, ◌∙◌, ◌≢◌, arith}
 use Rattle.cq_words.specs.Table.{number_in}
-use Rattle.cq_desc.specs.declared.layout.TheConstants.{ACT, ACT_TRANSFER, ACT_LINK, ACT_NOP}
+use Rattle.cq_desc.specs.Fields.{ACT, ACT_TRANSFER, ACT_LINK, ACT_NOP}
 use Rattle.cq_desc.proofs.TransferLaws.{not_valid-reads, piece-reads, link-reads, nop-reads, bad_act-reads, piece-holds, link-holds, nop-holds, high-held}
 use Rattle.cq_desc.proofs.xfer.read_xfer.Goals as goal
 
