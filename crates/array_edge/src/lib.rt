@@ -13,6 +13,3 @@ pub use file_array::FileArray;
 pub use mem_array::MemArray;
 pub use run_array::{RunArray, RunStart};
 pub use script_array::ScriptArray;
-
-#[cfg(test)]
-mod tests;

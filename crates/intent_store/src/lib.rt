@@ -8,6 +8,3 @@ mod pages;
 
 pub use ends::{StartEnd, StoreEnd};
 pub use intent::Intent;
-
-#[cfg(test)]
-mod tests;

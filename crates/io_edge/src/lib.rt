@@ -10,8 +10,6 @@ mod sink;
 mod source;
 mod std_edge;
 mod take;
-#[cfg(test)]
-mod tests;
 
 pub use any_source::{AnySource, EmptySource, NoSource};
 pub use mem_sink::MemSink;
