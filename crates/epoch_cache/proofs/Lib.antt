@@ -1,2 +1,3 @@
-pub mod CacheSteps
 pub mod TableSteps
+pub mod CacheSteps
+pub mod Marks

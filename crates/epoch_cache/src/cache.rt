@@ -1,9 +1,12 @@
-ghost use Rattle.std.specs.Prelude.{◌≡◌, ◌↔◌, ◌+◌, ◌-◌, ◌<◌, ◌≤◌, ◌==◌, false, true, not, [], length, drop, filter, find, IfOk, IsErr, IsSome, IsNone, IfSome, OnOk, OnErr, slice_get, nat_lt};
+ghost use Rattle.std.specs.Prelude.{◌≡◌, ◌↔◌, ◌+◌, ◌-◌, ◌<◌, ◌≤◌, ◌==◌, false, true, not, [], length, drop, filter, find, IfOk, IsErr, IsSome, IsTrue, remove, take, ◌*◌, IsNone, IfSome, OnOk, OnErr, slice_get, nat_lt};
 ghost use Rattle.std.specs.List.{list_any};
 ghost use Rattle.std.specs.Option.{option_copied};
+ghost use Rattle.indexmap.specs.IndexMap.{index_map_len, spare};
+ghost use Rattle.epoch_cache.specs.Recent.{AreMarked};
 ghost use Rattle.epoch_cache.specs.Cache.{IsCache, IsPlace, is_of, lines_with, newest_of, next_epoch, renewed};
 
 use crate::Line;
+use crate::recent::Recent;
 use crate::table::LineTable;
 use std::alloc::Global;
 use std::marker::Model;
@@ -13,22 +16,28 @@ use storage_model::{Block, NoMemory, Put};
 #[derive(Clone, Copy, Debug, PartialEq, Eq)]
 pub struct Full;
 
+/// From this number on all lines are numbered anew.
+const MOST_FIRST: u64 = 0x8000_0000_0000_0000;
+
 /// The lines of a cache, in order of epoch and then of coming to be, at most one for each sector and epoch. All memory is
-/// taken at the start.
+/// taken at the start. A put, a search and the oldest line's going cost the same however many lines there are.
 #[derive(Debug, Drop)]
 pub struct EpochCache {
     table: LineTable,
     last: u32,
+    recent: Recent,
 }
 
 impl Model for EpochCache {
+    ghost use Rattle.std.specs.Prelude.{◌≤◌};
     ghost use Rattle.epoch_cache.specs.Cache.{Cache, IsCache};
+    ghost use Rattle.epoch_cache.specs.Recent.{AreMarked};
 
     ghost Value = { Cache };
 
     ghost view = { λ c. record { lines = c.table.lines; last = c.last; room = c.table.room } };
 
-    ghost invariant = { λ c. IsCache (record { lines = c.table.lines; last = c.last; room = c.table.room }) };
+    ghost invariant = { λ c. IsCache (record { lines = c.table.lines; last = c.last; room = c.table.room }) × AreMarked c.table.lines c.table.room c.recent.places c.recent.first × (c.table.room ≤ 65535) };
 }
 
 impl EpochCache {
@@ -38,7 +47,12 @@ impl EpochCache {
         ensures is_cache { IfOk result IsCache }
     {
         let table = LineTable::start(alloc, lines)?;
-        Ok(EpochCache { table, last: 0 })
+        let recent = Recent::start(alloc, lines)?;
+        Ok(EpochCache {
+            table,
+            last: 0,
+            recent,
+        })
     }
 
     /// Takes all lines out and begins with epoch 0.
@@ -48,6 +62,7 @@ impl EpochCache {
     {
         self.table.clear();
         self.last = 0;
+        self.recent.clear();
     }
 
     /// Gives the sector's line in the last epoch a new value at its place, or adds one. A line is whole once a reliable put
@@ -72,6 +87,7 @@ impl EpochCache {
             whole: put.reliable,
             epoch: self.last,
         });
+        mark_last(&mut self.recent, &self.table);
         Ok(())
     }
 
@@ -94,13 +110,15 @@ impl EpochCache {
     pub fn newest(&self, sector: u32) -> Option<&Block>
         ensures { option_copied result ≡ newest_of sector self.now.lines }
     {
-        for k in (0..self.table.len()).rev() {
-            let line = self.table.at(k);
-            if line.sector == sector {
-                return Some(&line.value);
-            }
-        }
-        None
+        let k = self.recent.place(sector)?;
+        Some(&self.table.at(k as u16).value)
+    }
+
+    /// Whether there is any line.
+    pub fn has_lines(&self) -> bool
+        ensures { IsTrue result ↔ (0 < length self.now.lines) }
+    {
+        self.table.len() > 0
     }
 
     /// The first line of all.
@@ -145,7 +163,21 @@ impl EpochCache {
         ensures dropped { self.new ≡ record self.old { lines = drop 1 self.old.lines } }
         ensures is_cache { IsCache self.new }
     {
-        self.table.remove(0);
+        self.drop_oldest_at(0);
+    }
+
+    /// Takes line `k` in order out, 0 the oldest. One in front of which others stand costs a step for each line.
+    pub fn drop_oldest_at(&mut self, k: u16)
+        requires { k < length self.old.lines }
+        ensures dropped { self.new ≡ record self.old { lines = remove self.old.lines k } }
+        ensures is_cache { IsCache self.new }
+    {
+        self.table.remove(k);
+        if k == 0 {
+            self.recent.shift();
+        } else {
+            mark_all(&mut self.recent, &self.table);
+        }
     }
 
     /// Takes the sector's line in the last epoch out.
@@ -155,7 +187,7 @@ impl EpochCache {
         ensures is_cache { IsCache self.new }
     {
         if let Some(k) = self.place_of(sector) {
-            self.table.remove(k);
+            self.drop_oldest_at(k);
         }
     }
 
@@ -170,14 +202,40 @@ impl EpochCache {
     fn place_of(&self, sector: u32) -> Option<u16>
         ensures some { IfSome result (IsPlace (is_of self.now.last sector) self.now.lines) }
         ensures none { IsNone result → list_any (is_of self.now.last sector) self.now.lines ≡ false }
+        ensures is_cache { IsCache self.now }
     {
-        for k in (0..self.table.len()).rev() {
-            let line = self.table.at(k);
-            if line.epoch == self.last && line.sector == sector {
-                return Some(k);
-            }
+        let k = self.recent.place(sector)? as u16;
+        if self.table.at(k).epoch == self.last {
+            Some(k)
+        } else {
+            None
         }
-        None
+    }
+}
+
+// Notes the newest line, which came behind all others.
+fn mark_last(recent: &mut Recent, table: &LineTable)
+    requires some { 0 < length table.now.lines }
+    requires fits { length table.now.lines ≤ table.now.room }
+    requires before { AreMarked (take (length table.now.lines - 1) table.now.lines) table.now.room recent.old.places recent.old.first }
+    ensures { AreMarked table.now.lines table.now.room recent.new.places recent.new.first }
+{
+    let k = table.len() - 1;
+    if recent.first() < MOST_FIRST && recent.mark(table.at(k).sector, k) {
+        return;
+    }
+    mark_all(recent, table);
+}
+
+// Numbers all lines anew.
+fn mark_all(recent: &mut Recent, table: &LineTable)
+    requires fits { length table.now.lines ≤ table.now.room }
+    requires room { 2 * table.now.room ≤ index_map_len recent.old.places + spare recent.old.places }
+    ensures { AreMarked table.now.lines table.now.room recent.new.places recent.new.first }
+{
+    recent.clear();
+    for k in 0..table.len() {
+        recent.mark(table.at(k).sector, k);
     }
 }
 

@@ -4,6 +4,7 @@
 
 mod cache;
 mod line;
+mod recent;
 mod table;
 
 pub use cache::{EpochCache, Full};

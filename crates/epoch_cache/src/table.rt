@@ -1,10 +1,12 @@
 // Lines in order, each of which stays where it is in memory.
 ghost use Rattle.std.specs.Prelude.{◌≡◌, ◌<◌, [], ◌∷◌, ◌++◌, IfOk, length, remove, slice_index, slice_index_or, slice_set};
 ghost use Rattle.std.specs.List.{range_with_len};
+ghost use Rattle.std.specs.VecDeque.{deque_len};
 ghost use Rattle.epoch_cache.specs.Table.{Table};
 
 use crate::Line;
 use std::alloc::Global;
+use std::collections::VecDeque;
 use std::marker::Model;
 use storage_model::{Block, NoMemory};
 
@@ -13,7 +15,7 @@ use storage_model::{Block, NoMemory};
 pub struct LineTable {
     slots: Vec<Line>,
     // The slots of the lines held, in order, and after them the free ones.
-    order: Vec<u16>,
+    order: VecDeque<u16>,
     held: u16,
 }
 
@@ -106,20 +108,22 @@ impl LineTable {
 }
 
 // Moves element `k` behind all others.
-fn move_to_end(order: &mut [u16], k: usize)
-    requires { k < length order.old }
-    ensures { order.new ≡ remove order.old k ++ slice_index order.old k ∷ [] }
+fn move_to_end(order: &mut VecDeque<u16>, k: usize)
+    requires { k < deque_len order.old }
+    ensures { order.new.items ≡ remove order.old.items k ++ slice_index order.old.items k ∷ [] }
 {
-    order[k..].rotate_left(1);
+    if let Some(slot) = order.remove(k) {
+        order.push_back(slot).unwrap();
+    }
 }
 
 // The numbers below `count`, in order.
-fn first_numbers(alloc: Global, count: u16) -> Result<Vec<u16>, NoMemory>
+fn first_numbers(alloc: Global, count: u16) -> Result<VecDeque<u16>, NoMemory>
     ensures { IfOk result (λ numbers. numbers.items ≡ range_with_len 0 count) }
 {
-    let mut numbers = Vec::with_capacity(alloc, usize::from(count))?;
+    let mut numbers = VecDeque::with_capacity(alloc, usize::from(count))?;
     for number in 0..count {
-        numbers.push(number)?;
+        numbers.push_back(number)?;
     }
     Ok(numbers)
 }

@@ -6,5 +6,5 @@ pub loop-number-preserved : goal.loop-number-preserved
 loop-number-preserved c =
     let more = range_more 0 c.loop-number.number in
     let same : 0 + c.loop-number.number ≡ c.loop-number.number = omega arith in
-    let pushed = c.in_ok-push.ensures.items in
+    let pushed = c.in_ok-push_back.ensures.items in
     cc

@@ -10,4 +10,4 @@ pub returns-clause-line : goal.returns-clause-line
 returns-clause-line c =
     let place = rw (← c.self.view_is) at c.in_ok-k.ensures.some in
     rw (← c.self.view_is)
-    (ap Some c.at.ensures ∙ sym (one_found c.self.inside.last c.args.sector c.self.inside.table.lines c.in_ok-k.k c.at.result.now c.self.invariant.order place.within (place.passes c.at.result.now)))
+    (ap Some c.at.ensures ∙ sym (one_found c.self.inside.last c.args.sector c.self.inside.table.lines c.in_ok-k.k c.at.result.now c.self.invariant.0.order place.within (place.passes c.at.result.now)))

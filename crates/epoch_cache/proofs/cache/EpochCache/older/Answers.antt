@@ -6,4 +6,4 @@ use Rattle.epoch_cache.proofs.cache.EpochCache.older.Goals as goal
 pub returns-then-len-gt0 : goal.returns-then-len-gt0
 returns-then-len-gt0 c =
     rw (← c.self.view_is)
-    (ap (λ (line : Line). nat_lt line.epoch c.self.inside.last) c.at.ensures ∙ older_first c.self.inside.last c.self.inside.table.lines c.at.result.now c.self.invariant.order (omega arith))
+    (ap (λ (line : Line). nat_lt line.epoch c.self.inside.last) c.at.ensures ∙ older_first c.self.inside.last c.self.inside.table.lines c.at.result.now c.self.invariant.0.order (omega arith))
