@@ -4,3 +4,5 @@ pub mod Meetings
 pub mod Scripted
 pub mod Reached
 pub mod Runs
+pub mod Reaching
+pub mod Ended

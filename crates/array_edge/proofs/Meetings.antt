@@ -1,11 +1,12 @@
 -- The fault of a call number, found by its place in the list.
 use Rattle.std.proofs.Common.{zero, suc, inl, inr, ◌∙◌, ◌≡◌, ◌≢◌, ℕ, ◌+◌, ◌<◌, ◌≤◌, ◌==◌, ◌&&◌, Bool, true, false, List, [], ◌∷◌, Some, None, length, get_or, arith, refl, sym, eq-eqb}
+use Rattle.storage_model.specs.Faults.{IsValidArrayHits}
 use Rattle.std.proofs.lemmas.Bool.{cases_order, false≢true, ne_eqb, true≢false}
 use Rattle.std.proofs.lemmas.List.{get_or_default}
 use Rattle.std.specs.Bool.{beq}
 use Rattle.std.specs.List.{find}
 use Rattle.storage_model.specs.declared.faults.ArrayHit.{ArrayHit}
-use Rattle.array_edge.specs.Hits.{IsPast, IsValidArrayHits, hit_of, is_hit}
+use Rattle.array_edge.specs.Hits.{IsPast, hit_of, is_hit}
 
 pub found_at : {X : Type 0} (p : X → Bool) (xs : List X) (at : ℕ) (d : X) → at < length xs → ((k : ℕ) → k < at → p (get_or xs k d) ≡ false) → p (get_or xs at d) ≡ true → find p xs ≡ Some (get_or xs at d)
 found_at p [] at d within before here = absurd (omega arith)

@@ -21,7 +21,7 @@ before_false : (a b : Bool) → (a ≡ true → b ≡ true) → b ≡ false → 
 before_false true b later is = absurd (true≢false (sym (later refl) ∙ is))
 before_false false b later is = refl
 
-stood_not : (old new : Count) → Later old new → new.stands ≡ false → old.stands ≡ false
+pub stood_not : (old new : Count) → Later old new → new.stands ≡ false → old.stands ≡ false
 stood_not old new later is = before_false old.stands new.stands later.stands is
 
 by_one : (old new : Count) → RaisedByOne old new → new.stands ≡ false → old.value + 1 ≤ new.value

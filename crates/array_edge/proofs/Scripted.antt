@@ -1,9 +1,9 @@
 -- What a script's calls do, from what the inner array's calls do.
 use Rattle.std.proofs.Common.{◌≡◌, ℕ, Result, Ok, ap}
+use Rattle.storage_model.specs.Granule.{IsMasked}
 use Rattle.storage_model.specs.declared.block.Block.{Block}
 use Rattle.storage_model.specs.declared.faults.ArrayHit.{ArrayHit}
 use Rattle.array_edge.specs.Array.{ArrayState, Fetched, Programmed}
-use Rattle.array_edge.specs.Hits.{IsMasked}
 use Rattle.array_edge.specs.Script.{IsBroken, Script, after_hit, end_of_hit}
 use Rattle.array_edge.specs.declared.array.ArrayEnd.{ArrayEnd}
 

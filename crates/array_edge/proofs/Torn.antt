@@ -4,11 +4,10 @@ use Rattle.std.proofs.lemmas.List.{set-get_or}
 use Rattle.std.specs.Bool.{if◌then◌else◌}
 use Rattle.std.specs.Int.{bit_at}
 use Rattle.std.specs.Prelude.{◌==◌}
-use Rattle.storage_model.specs.Granule.{IsMix, granule}
+use Rattle.storage_model.specs.Granule.{IsMix, granule, IsMasked}
 use Rattle.storage_model.specs.declared.block.Block.{Block}
 use Rattle.storage_model.specs.declared.faults.ArrayHit.{ArrayHit}
 use Rattle.array_edge.specs.Array.{ArrayState, Fetched, HasPage, IsTorn, Programmed, page_at, with_page}
-use Rattle.array_edge.specs.Hits.{IsMasked}
 use Rattle.array_edge.specs.Script.{Script, ScriptProgrammed}
 use Rattle.array_edge.specs.declared.array.ArrayEnd.{ArrayEnd}
 

@@ -1,18 +1,10 @@
 -- The faults that an array is told beforehand: which call each of them befalls, and what a program leaves then.
-use Rattle.std.specs.Prelude.{All, slice_index_or, length, true, false, ◌≤◌, ◌≡◌, ℕ, ◌+◌, ◌-◌, ◌<◌, ◌^◌, ◌==◌, ◌&&◌, Bool, not, if◌then◌else◌, List, Option, min}
+use Rattle.std.specs.Prelude.{slice_index_or, length, true, false, ◌≤◌, ◌≡◌, ℕ, ◌+◌, ◌-◌, ◌<◌, ◌^◌, ◌==◌, ◌&&◌, Bool, not, if◌then◌else◌, List, Option, min}
 use Rattle.std.specs.Bool.{beq, nat_le}
-use Rattle.std.specs.Int.{bit_at}
-use Rattle.std.specs.List.{AllPairs, count_by, find}
-use Rattle.storage_model.specs.Count.{Count}
-use Rattle.storage_model.specs.Granule.{granule}
-use Rattle.storage_model.specs.declared.block.Block.{Block}
+use Rattle.std.specs.List.{count_by, find}
 use Rattle.storage_model.specs.declared.faults.ArrayHit.{ArrayHit}
 
--- a counter of 64 bits, which stays at its last value
-abbrev pub count_of : ℕ → Count
-count_of n = record { value = n; stands = n == 2 ^ 64 - 1 }
-
--- that counter, raised by one
+-- a counter of 64 bits, raised by one
 abbrev pub raised : ℕ → ℕ
 raised n = min (n + 1) (2 ^ 64 - 1)
 
@@ -23,16 +15,6 @@ is_hit fetch number hit = beq hit.fetch fetch && (hit.n == number)
 -- the fault that befalls the fetch (or the program) with this call number
 abbrev pub hit_of : List ArrayHit → Bool → ℕ → Option ArrayHit
 hit_of hits fetch number = find (is_hit fetch number) hits
-
--- the granules of the mask are new, the others old
-pub record IsMasked (mask : ℕ) (old new left : Block) : Type 0 where
-  pub each : (k : ℕ) → k < 8 → granule left k ≡ granule (if bit_at mask k == 1 then new else old) k
-
--- The numbers are from 1 to 2 ^ 32 - 1 and rise among the fetches and among the programs, and no fetch is cut.
-pub record IsValidArrayHits (hits : List ArrayHit) : Type 0 where
-  pub numbers : All (λ hit. (1 ≤ hit.n) × (hit.n < 2 ^ 32)) hits
-  pub rising : AllPairs (λ hit later. hit.fetch ≡ later.fetch → hit.n < later.n) hits
-  pub uncut : All (λ hit. hit.fetch ≡ true → hit.cut ≡ false) hits
 
 -- a fault of such a call, from a valid list
 pub record IsValidHit (fetch : Bool) (number : ℕ) (hit : ArrayHit) : Type 0 where

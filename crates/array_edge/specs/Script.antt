@@ -1,11 +1,13 @@
 -- An array over which faults are scripted. Exactly the calls with the listed numbers fail or are cut, and all others go
 -- to the inner array.
-use Rattle.std.specs.Prelude.{◌≡◌, ◌⊎◌, ℕ, ◌+◌, ◌-◌, ◌<◌, ◌≤◌, ◌^◌, ◌==◌, ◌||◌, Bool, true, false, List, Option, Some, None, Result, Ok, Err, if◌then◌else◌, not, ◌&&◌}
-use Rattle.storage_model.specs.Count.{Count}
+use Rattle.std.specs.Prelude.{◌≡◌, ◌⊎◌, ℕ, ◌+◌, ◌-◌, ◌<◌, ◌≤◌, ◌^◌, ◌==◌, ◌||◌, Bool, true, false, List, Option, Some, None, Result, Ok, Err, if◌then◌else◌, not, ◌&&◌, min}
+use Rattle.storage_model.specs.Faults.{IsValidArrayHits}
+use Rattle.storage_model.specs.Granule.{IsMasked}
+use Rattle.storage_model.specs.Count.{Count, count_of}
 use Rattle.storage_model.specs.declared.block.Block.{Block}
 use Rattle.storage_model.specs.declared.faults.ArrayHit.{ArrayHit}
 use Rattle.array_edge.specs.Array.{ArrayState, Fetched, Programmed}
-use Rattle.array_edge.specs.Hits.{IsMasked, IsPast, IsValidArrayHits, IsValidHit, reached_fetches, count_of, raised, reached_cuts, reached_fails}
+use Rattle.array_edge.specs.Hits.{IsPast, IsValidHit, reached_fetches, raised, reached_cuts, reached_fails}
 use Rattle.array_edge.specs.declared.array.ArrayEnd.{ArrayEnd}
 use Rattle.array_edge.specs.declared.array.ArrayEnd.TheVariants.{Failed, PowerLost}
 
@@ -25,7 +27,7 @@ with_more count n = record { value = count.value + n; stands = count.stands || (
 
 -- what it is as an array, by what the inner one is
 abbrev pub script_over : {A : Type 0} → (A → ArrayState) → Script A → ArrayState
-script_over state s = record { told = (state s.inner).told; count = (state s.inner).count; powered = s.powered; faults = with_more (state s.inner).faults s.faults; cuts = with_more (state s.inner).cuts s.cuts; programs = count_of s.programs; fetches = count_of s.fetches }
+script_over state s = record { told = (state s.inner).told; count = (state s.inner).count; powered = s.powered; faults = with_more (state s.inner).faults s.faults; cuts = with_more (state s.inner).cuts s.cuts; programs = count_of s.programs; fetches = count_of s.fetches; settled = (state s.inner).settled }
 
 -- a fetch with the power on, by the fault of its call number
 abbrev pub ScriptFetched : {A : Type 0} → (A → ArrayState) → Option ArrayHit → Script A → ℕ → Block → Script A → Result (Unit {0}) ArrayEnd → Type 0
@@ -94,3 +96,12 @@ pub record IsKept (inner : ArrayState) (hits : List ArrayHit) (powered : Bool) (
 pub record HasRun (start now : ArrayState) (hits : List ArrayHit) (programs fetches : ℕ) : Type 0 where
   pub by_programs : now.programs.stands ≡ false → now.faults.stands ≡ false → start.programs.value + start.faults.value + programs ≤ now.programs.value + now.faults.value
   pub by_fetches : now.fetches.stands ≡ false → start.fetches.value + fetches ≤ now.fetches.value + reached_fetches fetches hits
+
+-- Which faults the script made, by what the inner array was when the calls began. Where the inner array neither failed nor was
+-- cut since, and no count stands, the script made exactly those that were reached.
+pub record HasMet (start now : ArrayState) (hits : List ArrayHit) (faults cuts programs fetches : ℕ) : Type 0 where
+  pub valid : IsValidArrayHits hits
+  pub faults_later : start.faults.value ≤ now.faults.value
+  pub cuts_later : start.cuts.value ≤ now.cuts.value
+  pub exact : now.faults.value ≡ start.faults.value → now.faults.stands ≡ false → now.cuts.value ≡ start.cuts.value → now.cuts.stands ≡ false
+      → (faults ≡ min (reached_fails programs fetches hits) (2 ^ 64 - 1)) × (cuts ≡ min (reached_cuts programs fetches hits) (2 ^ 64 - 1))

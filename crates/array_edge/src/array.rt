@@ -1,6 +1,6 @@
-ghost use Rattle.std.specs.Prelude.{◌≡◌, ◌<◌, true, length, IfSome, OnOk, OnErr};
+ghost use Rattle.std.specs.Prelude.{◌≡◌, ◌||◌, ◌<◌, true, is_ok, length, IfSome, OnOk, OnErr};
 ghost use Rattle.storage_model.specs.Count.{RaisedByOne};
-ghost use Rattle.array_edge.specs.Array.{ArrayState, Ends, HasPage, IsTorn, with_page};
+ghost use Rattle.array_edge.specs.Array.{ArrayState, Ends, HasPage, IsTorn, IsUnsettled, with_page};
 
 use storage_model::Block;
 
@@ -12,7 +12,8 @@ pub enum ArrayEnd {
 }
 
 /// An array of flash pages. Its meaning is one record: the pages where it tells them, their number, whether the power is
-/// on, how often it failed and was cut, and how many calls of `program` and of `fetch` came while the power was on.
+/// on, how often it failed and was cut, how many calls of `program` and of `fetch` came while the power was on, and whether
+/// what was programmed is settled.
 pub trait Array {
     ghost state: { Self → ArrayState };
 
@@ -34,12 +35,13 @@ pub trait Array {
         ensures written { OnOk result ((state self.new).told ≡ with_page (state self.old).told page block.now) }
         ensures torn { OnErr result (IsTorn (state self.old).told page block.now (state self.new).told) }
         ensures same { state self.new ≡ record (state self.new) { count = (state self.old).count; fetches = (state self.old).fetches } }
+        ensures unsettled { IsUnsettled (state self.old) (state self.new) result }
         ensures number { (state self.old).powered ≡ true → RaisedByOne (state self.old).programs (state self.new).programs }
         ensures ends { Ends (state self.old) (state self.new) result };
 
-    /// Makes what was written durable. It changes no page.
+    /// Makes what was written durable: with `Ok` the array is settled. It changes no page.
     fn settle(&mut self) -> Result<(), ArrayEnd>
-        ensures same { state self.new ≡ record (state self.old) { faults = (state self.new).faults } }
+        ensures same { state self.new ≡ record (state self.old) { faults = (state self.new).faults; settled = is_ok result || (state self.old).settled } }
         ensures ends { Ends (state self.old) (state self.new) result };
 
     /// Switches the power on.

@@ -1,7 +1,7 @@
-ghost use Rattle.std.specs.Prelude.{◌≡◌, ◌*◌, ◌<◌, true, false, OnErr, OnOk};
+ghost use Rattle.std.specs.Prelude.{◌≡◌, ◌||◌, ◌*◌, ◌<◌, true, false, is_ok, OnErr, OnOk};
 ghost use Rattle.std.specs.Option.{is_none};
 ghost use Rattle.storage_model.specs.Count.{RaisedByOne};
-ghost use Rattle.array_edge.specs.Array.{Ends, HasPage, IsTorn, with_page};
+ghost use Rattle.array_edge.specs.Array.{Ends, HasPage, IsTorn, IsUnsettled, with_page};
 ghost use Rattle.array_edge.specs.FilePages.{FilePages, after_end, array_over};
 ghost use Rattle.array_edge.specs.Hits.{raised};
 ghost use Rattle.array_edge.specs.declared.array.ArrayEnd.TheVariants.{Failed};
@@ -22,18 +22,19 @@ pub struct FileArray {
     faults: u64,
     programs: u64,
     fetches: u64,
+    settled: bool,
 }
 
 impl Model for FileArray {
     ghost Value = { FilePages };
 
-    ghost view = { λ f. record { pages = f.pages; missing = is_none f.file; powered = f.powered; faults = f.faults; programs = f.programs; fetches = f.fetches } };
+    ghost view = { λ f. record { pages = f.pages; missing = is_none f.file; powered = f.powered; faults = f.faults; programs = f.programs; fetches = f.fetches; settled = f.settled } };
 }
 
 impl FileArray {
     /// The first `pages` blocks of 512 bytes of the file, with the power off.
     pub fn over(file: File, pages: u32) -> FileArray
-        ensures { result ≡ record { pages = pages; missing = false; powered = false; faults = 0; programs = 0; fetches = 0 } }
+        ensures { result ≡ record { pages = pages; missing = false; powered = false; faults = 0; programs = 0; fetches = 0; settled = false } }
     {
         FileArray::start(Some(file), pages)
     }
@@ -41,13 +42,13 @@ impl FileArray {
     /// An array of so many pages without a file, with the power off: each `fetch`, `program` and `settle` with the
     /// power on fails.
     pub fn failing(pages: u32) -> FileArray
-        ensures { result ≡ record { pages = pages; missing = true; powered = false; faults = 0; programs = 0; fetches = 0 } }
+        ensures { result ≡ record { pages = pages; missing = true; powered = false; faults = 0; programs = 0; fetches = 0; settled = false } }
     {
         FileArray::start(None, pages)
     }
 
     fn start(file: Option<File>, pages: u32) -> FileArray
-        ensures { result ≡ record { pages = pages; missing = is_none file; powered = false; faults = 0; programs = 0; fetches = 0 } }
+        ensures { result ≡ record { pages = pages; missing = is_none file; powered = false; faults = 0; programs = 0; fetches = 0; settled = false } }
     {
         FileArray {
             file,
@@ -56,6 +57,7 @@ impl FileArray {
             faults: 0,
             programs: 0,
             fetches: 0,
+            settled: false,
         }
     }
 }
@@ -99,9 +101,10 @@ impl Array for FileArray {
         ensures written { OnOk result ((array_over self.new).told ≡ with_page (array_over self.old).told page block.now) }
         ensures torn { OnErr result (IsTorn (array_over self.old).told page block.now (array_over self.new).told) }
         ensures same { array_over self.new ≡ record (array_over self.new) { count = (array_over self.old).count; fetches = (array_over self.old).fetches } }
+        ensures unsettled { IsUnsettled (array_over self.old) (array_over self.new) result }
         ensures number { (array_over self.old).powered ≡ true → RaisedByOne (array_over self.old).programs (array_over self.new).programs }
         ensures ends { Ends (array_over self.old) (array_over self.new) result }
-        ensures counted { self.old.powered ≡ true → self.new ≡ after_end result (record self.old { programs = raised self.old.programs }) }
+        ensures counted { self.old.powered ≡ true → self.new ≡ after_end result (record self.old { programs = raised self.old.programs; settled = false }) }
         ensures failing { self.old.powered ≡ true → self.old.missing ≡ true → result ≡ Err Failed }
         ensures kept { self.old.powered ≡ false → self.new ≡ self.old }
     {
@@ -109,6 +112,7 @@ impl Array for FileArray {
             return Err(ArrayEnd::PowerLost);
         }
         self.programs = self.programs.saturating_add(1);
+        self.settled = false;
         let written = match &self.file {
             Some(file) => file.write_all_at(&block.0, offset_of(page)).is_ok(),
             None => false,
@@ -121,9 +125,9 @@ impl Array for FileArray {
     }
 
     fn settle(&mut self) -> Result<(), ArrayEnd>
-        ensures same { array_over self.new ≡ record (array_over self.old) { faults = (array_over self.new).faults } }
+        ensures same { array_over self.new ≡ record (array_over self.old) { faults = (array_over self.new).faults; settled = is_ok result || (array_over self.old).settled } }
         ensures ends { Ends (array_over self.old) (array_over self.new) result }
-        ensures counted { self.old.powered ≡ true → self.new ≡ after_end result self.old }
+        ensures counted { self.old.powered ≡ true → self.new ≡ after_end result (record self.old { settled = is_ok result || self.old.settled }) }
         ensures failing { self.old.powered ≡ true → self.old.missing ≡ true → result ≡ Err Failed }
         ensures kept { self.old.powered ≡ false → self.new ≡ self.old }
     {
@@ -138,6 +142,7 @@ impl Array for FileArray {
             self.faults = self.faults.saturating_add(1);
             return Err(ArrayEnd::Failed);
         }
+        self.settled = true;
         Ok(())
     }
 

@@ -1,7 +1,8 @@
 // Which fault befalls a call, and what it leaves of a page.
 ghost use Rattle.std.specs.Prelude.{IfSome, ◌≡◌, ◌≢◌, ◌<◌, ℕ};
-ghost use Rattle.storage_model.specs.Granule.{granule};
-ghost use Rattle.array_edge.specs.Hits.{IsMasked, IsPast, IsValidArrayHits, IsValidHit, hit_of, is_hit};
+ghost use Rattle.storage_model.specs.Faults.{IsValidArrayHits};
+ghost use Rattle.storage_model.specs.Granule.{granule, IsMasked};
+ghost use Rattle.array_edge.specs.Hits.{IsPast, IsValidHit, hit_of, is_hit};
 
 use storage_model::{ArrayHit, ArrayHits, Block};
 

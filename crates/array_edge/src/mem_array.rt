@@ -1,6 +1,6 @@
-ghost use Rattle.std.specs.Prelude.{◌≡◌, ◌<◌, ◌^◌, true, false, length, IfSome, OnOk, OnErr, Some, refl};
+ghost use Rattle.std.specs.Prelude.{◌≡◌, ◌||◌, ◌<◌, ◌^◌, true, false, is_ok, length, IfSome, OnOk, OnErr, Some, refl};
 ghost use Rattle.storage_model.specs.Count.{RaisedByOne};
-ghost use Rattle.array_edge.specs.Array.{Ends, HasPage, IsTorn, with_page};
+ghost use Rattle.array_edge.specs.Array.{Ends, HasPage, IsTorn, IsUnsettled, with_page};
 ghost use Rattle.array_edge.specs.Hits.{hit_of, raised};
 ghost use Rattle.array_edge.specs.Memory.{Memory, MemoryFetched, MemoryProgrammed, array_of};
 
@@ -19,12 +19,13 @@ pub struct MemArray {
     cuts: u64,
     programs: u64,
     fetches: u64,
+    settled: bool,
 }
 
 impl Model for MemArray {
     ghost Value = { Memory };
 
-    ghost view = { λ m. record { pages = m.pages; hits = m.hits; powered = m.powered; faults = m.faults; cuts = m.cuts; programs = m.programs; fetches = m.fetches } };
+    ghost view = { λ m. record { pages = m.pages; hits = m.hits; powered = m.powered; faults = m.faults; cuts = m.cuts; programs = m.programs; fetches = m.fetches; settled = m.settled } };
 
     ghost invariant = { λ m. length m.pages < 2 ^ 32 };
 }
@@ -35,7 +36,7 @@ impl MemArray {
     /// two faults of one call the first counts, and a fetch is never cut.
     pub fn over(pages: BlockList, hits: ArrayHits) -> MemArray
         requires { length pages < 2 ^ 32 }
-        ensures { result ≡ record { pages = pages; hits = hits; powered = false; faults = 0; cuts = 0; programs = 0; fetches = 0 } }
+        ensures { result ≡ record { pages = pages; hits = hits; powered = false; faults = 0; cuts = 0; programs = 0; fetches = 0; settled = false } }
     {
         MemArray {
             pages,
@@ -45,6 +46,7 @@ impl MemArray {
             cuts: 0,
             programs: 0,
             fetches: 0,
+            settled: false,
         }
     }
 
@@ -70,6 +72,7 @@ impl MemArray {
         let left = masked(hit.mask, self.pages.at(page as usize), block);
         self.pages.set(page as usize, left);
         self.programs = self.programs.saturating_add(1);
+        self.settled = false;
         if hit.cut {
             self.cuts = self.cuts.saturating_add(1);
             self.powered = false;
@@ -116,6 +119,7 @@ impl Array for MemArray {
         ensures written { OnOk result ((array_of self.new).told ≡ with_page (array_of self.old).told page block.now) }
         ensures torn { OnErr result (IsTorn (array_of self.old).told page block.now (array_of self.new).told) }
         ensures same { array_of self.new ≡ record (array_of self.new) { count = (array_of self.old).count; fetches = (array_of self.old).fetches } }
+        ensures unsettled { IsUnsettled (array_of self.old) (array_of self.new) result }
         ensures number { (array_of self.old).powered ≡ true → RaisedByOne (array_of self.old).programs (array_of self.new).programs }
         ensures ends { Ends (array_of self.old) (array_of self.new) result }
         ensures met { self.old.powered ≡ true → MemoryProgrammed (hit_of self.old.hits false (raised self.old.programs)) self.old page block.now self.new result }
@@ -129,22 +133,23 @@ impl Array for MemArray {
             None => {
                 self.programs = self.programs.saturating_add(1);
                 self.pages.set(page as usize, *block);
+                self.settled = false;
                 Ok(())
             }
         }
     }
 
     fn settle(&mut self) -> Result<(), ArrayEnd>
-        ensures same { array_of self.new ≡ record (array_of self.old) { faults = (array_of self.new).faults } }
+        ensures same { array_of self.new ≡ record (array_of self.old) { faults = (array_of self.new).faults; settled = is_ok result || (array_of self.old).settled } }
         ensures ends { Ends (array_of self.old) (array_of self.new) result }
         ensures ok { self.old.powered ≡ true → OnErr result ⊥ }
-        ensures kept { self.new ≡ self.old }
+        ensures kept { self.new ≡ record self.old { settled = self.old.powered || self.old.settled } }
     {
-        if self.powered {
-            Ok(())
-        } else {
-            Err(ArrayEnd::PowerLost)
+        if !self.powered {
+            return Err(ArrayEnd::PowerLost);
         }
+        self.settled = true;
+        Ok(())
     }
 
     fn power_on(&mut self)

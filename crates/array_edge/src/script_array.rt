@@ -1,7 +1,8 @@
-ghost use Rattle.std.specs.Prelude.{IfSome, ◌≡◌, ◌<◌, ◌^◌, ◌⊎◌, true, false, Err, Ok, OnErr, OnOk};
+ghost use Rattle.std.specs.Prelude.{IfSome, ◌≡◌, ◌||◌, ◌<◌, ◌^◌, ◌⊎◌, true, false, Err, Ok, is_ok, OnErr, OnOk};
+ghost use Rattle.storage_model.specs.Faults.{IsValidArrayHits};
 ghost use Rattle.storage_model.specs.Count.{RaisedByOne};
-ghost use Rattle.array_edge.specs.Array.{Ends, Fetched, HasPage, IsTorn, Programmed, Settled, with_page};
-ghost use Rattle.array_edge.specs.Hits.{IsPast, IsValidArrayHits, IsValidHit, hit_of, raised, reached_fails};
+ghost use Rattle.array_edge.specs.Array.{Ends, Fetched, HasPage, IsTorn, IsUnsettled, Programmed, Settled, with_page};
+ghost use Rattle.array_edge.specs.Hits.{IsPast, IsValidHit, hit_of, raised, reached_fails};
 ghost use Rattle.array_edge.specs.declared.array.ArrayEnd.TheVariants.{Failed};
 ghost use Rattle.array_edge.specs.Script.{HasRoom, IsBroken, IsKept, IsUnread, IsWithinHits, Script, ScriptFetched, ScriptProgrammed, after_hit, end_of_hit, script_over};
 
@@ -94,7 +95,8 @@ impl<A: Array> ScriptArray<A> {
 
     fn fetch_on(&mut self, page: u32, block: &mut Block) -> Result<(), ArrayEnd>
         requires page { page < (A.state self.old.inner).count }
-        ensures { ScriptFetched A.state (hit_of self.old.hits true (raised self.old.fetches)) self.old page block.new self.new result }
+        ensures is { ScriptFetched A.state (hit_of self.old.hits true (raised self.old.fetches)) self.old page block.new self.new result }
+        ensures hits { self.new.hits ≡ self.old.hits }
     {
         match self.next_fetch() {
             Some(_) => {
@@ -108,7 +110,8 @@ impl<A: Array> ScriptArray<A> {
     fn program_on(&mut self, page: u32, block: &Block) -> Result<(), ArrayEnd>
         requires page { page < (A.state self.old.inner).count }
         requires on { self.old.powered ≡ true }
-        ensures { ScriptProgrammed A.state (hit_of self.old.hits false (raised self.old.programs)) self.old page block.now self.new result }
+        ensures is { ScriptProgrammed A.state (hit_of self.old.hits false (raised self.old.programs)) self.old page block.now self.new result }
+        ensures hits { self.new.hits ≡ self.old.hits }
     {
         match self.next_program() {
             Some(hit) => self.break_program(hit, page, block),
@@ -135,7 +138,8 @@ impl<A: Array> ScriptArray<A> {
         requires page { page < (A.state self.old.inner).count }
         requires on { self.old.powered ≡ true }
         requires room { HasRoom hit self.old.hits self.old.faults self.old.cuts self.old.programs self.old.fetches }
-        ensures { IsUnread A.state self.old page self.new result ⊎ IsBroken A.state hit self.old page block.now self.new result }
+        ensures is { IsUnread A.state self.old page self.new result ⊎ IsBroken A.state hit self.old page block.now self.new result }
+        ensures hits { self.new.hits ≡ self.old.hits }
     {
         let mut seen = Block([0; 512]);
         if let Err(end) = self.read_page(page, &mut seen) {
@@ -196,6 +200,7 @@ impl<A: Array> Array for ScriptArray<A> {
         ensures counter { self.old.fetches < 2 ^ 64 }
         ensures power { self.old.powered ≡ true → (A.state self.old.inner).powered ≡ true }
         ensures met { self.old.powered ≡ true → ScriptFetched A.state (hit_of self.old.hits true (raised self.old.fetches)) self.old page block.new self.new result }
+        ensures hits { self.new.hits ≡ self.old.hits }
         ensures kept { self.old.powered ≡ false → self.new ≡ self.old }
     {
         if !self.powered {
@@ -209,10 +214,13 @@ impl<A: Array> Array for ScriptArray<A> {
         ensures written { OnOk result ((script_over A.state self.new).told ≡ with_page (script_over A.state self.old).told page block.now) }
         ensures torn { OnErr result (IsTorn (script_over A.state self.old).told page block.now (script_over A.state self.new).told) }
         ensures same { script_over A.state self.new ≡ record (script_over A.state self.new) { count = (script_over A.state self.old).count; fetches = (script_over A.state self.old).fetches } }
+        ensures unsettled { IsUnsettled (script_over A.state self.old) (script_over A.state self.new) result }
         ensures number { (script_over A.state self.old).powered ≡ true → RaisedByOne (script_over A.state self.old).programs (script_over A.state self.new).programs }
         ensures ends { Ends (script_over A.state self.old) (script_over A.state self.new) result }
+        ensures counter { self.old.programs < 2 ^ 64 }
         ensures power { self.old.powered ≡ true → (A.state self.old.inner).powered ≡ true }
         ensures met { self.old.powered ≡ true → ScriptProgrammed A.state (hit_of self.old.hits false (raised self.old.programs)) self.old page block.now self.new result }
+        ensures hits { self.new.hits ≡ self.old.hits }
         ensures kept { self.old.powered ≡ false → self.new ≡ self.old }
     {
         if !self.powered {
@@ -222,7 +230,7 @@ impl<A: Array> Array for ScriptArray<A> {
     }
 
     fn settle(&mut self) -> Result<(), ArrayEnd>
-        ensures same { script_over A.state self.new ≡ record (script_over A.state self.old) { faults = (script_over A.state self.new).faults } }
+        ensures same { script_over A.state self.new ≡ record (script_over A.state self.old) { faults = (script_over A.state self.new).faults; settled = is_ok result || (script_over A.state self.old).settled } }
         ensures ends { Ends (script_over A.state self.old) (script_over A.state self.new) result }
         ensures passed { self.old.powered ≡ true → Settled (A.state self.old.inner) (A.state self.new.inner) result }
         ensures after { self.new ≡ record self.old { inner = self.new.inner } }

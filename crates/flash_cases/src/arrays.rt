@@ -1,6 +1,6 @@
-ghost use Rattle.std.specs.Prelude.{◌≡◌, IfOk, length};
-ghost use Rattle.array_edge.specs.Hits.{IsValidArrayHits};
-ghost use Rattle.array_edge.specs.Script.{HasRun};
+ghost use Rattle.std.specs.Prelude.{◌≡◌, false, IfOk, length};
+ghost use Rattle.storage_model.specs.Faults.{IsValidArrayHits};
+ghost use Rattle.array_edge.specs.Script.{HasMet, HasRun};
 
 use array_edge::{Array, ArrayEnd, FileArray, MemArray, RunArray, RunStart, ScriptArray};
 use std::alloc::Global;
@@ -60,7 +60,9 @@ fn pages_of_a_file_stand_in_their_order(rt: HostRuntime) -> Result<(), Fail> {
 }
 
 // A program that a fault befalls, with the granules of the mask new.
-fn broken(n: u32, cut: bool, mask: u8) -> ArrayHit {
+fn broken(n: u32, cut: bool, mask: u8) -> ArrayHit
+    ensures { result ≡ record { fetch = false; n = n; cut = cut; mask = mask } }
+{
     ArrayHit {
         fetch: false,
         n,
@@ -99,7 +101,9 @@ fn script_breaks_its_calls(rt: HostRuntime) -> Result<(), Fail> {
 fn run_script<A: Array, S: RunStart>(array: A, hits: ArrayHits) -> ScriptArray<A>
     requires valid { IsValidArrayHits hits }
     requires start { A.state array ≡ S.start }
-    ensures { HasRun S.start (A.state result.inner) result.hits result.programs result.fetches }
+    requires hits { hits ≡ S.hits }
+    ensures run { HasRun S.start (A.state result.inner) S.hits result.programs result.fetches }
+    ensures met { HasMet S.start (A.state result.inner) S.hits result.faults result.cuts result.programs result.fetches }
 {
     let mut run: RunArray<A, S> = RunArray::over(ScriptArray::over(array, hits));
     run.power_on();
@@ -108,7 +112,8 @@ fn run_script<A: Array, S: RunStart>(array: A, hits: ArrayHits) -> ScriptArray<A
 
 fn run_from<A: Array>(array: A, hits: ArrayHits) -> ScriptArray<A>
     requires { IsValidArrayHits hits }
-    ensures { HasRun (A.state array) (A.state result.inner) result.hits result.programs result.fetches }
+    ensures run { HasRun (A.state array) (A.state result.inner) hits result.programs result.fetches }
+    ensures met { HasMet (A.state array) (A.state result.inner) hits result.faults result.cuts result.programs result.fetches }
 {
     run_script::<A, Brand>(array, hits)
 }

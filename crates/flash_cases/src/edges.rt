@@ -2,8 +2,68 @@ use io_edge::{
     AnySource, EmptySource, Failed, MemSink, MemSource, NoSource, StdSink, StdSource, TakeEnd,
     put_all, take_all,
 };
+use std::io;
+use std::io::{Read, Write};
 use std::test::Fail;
 use storage_model::Bytes;
+
+// A reader that gives two bytes, and whose every later read fails.
+#[derive(Drop)]
+struct BrokenOff {
+    begun: bool,
+}
+
+impl Read for BrokenOff {
+    fn read(&mut self, buf: &mut [u8]) -> io::Result<usize> {
+        if self.begun || buf.len() < 2 {
+            return Err(io::Error::from(io::ErrorKind::Interrupted));
+        }
+        self.begun = true;
+        buf[..2].copy_from_slice(b"ab");
+        Ok(2)
+    }
+}
+
+// A writer that takes two bytes at a call, and none where it is full.
+#[derive(Drop)]
+struct Narrow {
+    bytes: Vec<u8>,
+    room: usize,
+}
+
+impl Write for Narrow {
+    fn write(&mut self, buf: &[u8]) -> io::Result<usize> {
+        let count = buf.len().min(2).min(self.room);
+        self.bytes.extend_from_slice(&buf[..count])?;
+        self.room -= count;
+        Ok(count)
+    }
+
+    fn flush(&mut self) -> io::Result<()> {
+        Ok(())
+    }
+}
+
+#[test]
+fn failed_read_is_no_end(rt: HostRuntime) -> Result<(), Fail> {
+    let mut file = AnySource::Std(StdSource::over(BrokenOff { begun: false }));
+    let end = take_all(rt.alloc(), &mut file, 9).map(|_| ());
+    assert_eq!(rt; end, Err(TakeEnd::Failed));
+    Ok(())
+}
+
+#[test]
+fn what_was_not_written_was_not_taken(rt: HostRuntime) -> Result<(), Fail> {
+    let mut writer = Narrow {
+        bytes: Vec::new(rt.alloc()),
+        room: 5,
+    };
+    let mut sink = StdSink::over(&mut writer);
+    assert_eq!(rt; put_all(&mut sink, b"abc"), Ok(()));
+    assert_eq!(rt; put_all(&mut sink, b"def"), Err(Failed));
+    assert_eq!(rt; writer.bytes.as_slice(), b"abcde".as_slice());
+    Ok(())
+}
 
 #[test]
 fn texts_are_taken_and_put(rt: HostRuntime) -> Result<(), Fail> {

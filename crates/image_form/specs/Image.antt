@@ -1,14 +1,12 @@
 -- The pages of an image of version 1, and the sectors that they show. Page 0 is the superblock, page 1 the gate, page 2
 -- the intent page, and sector s is page 8 + s. While the gate is ajar for a sector the intent page stands for it.
-use Rattle.std.specs.Prelude.{◌≤◌, ℕ, ◌+◌, List, [], ◌∷◌, length, take, drop, slice_index_or, slice_set}
+use Rattle.std.specs.Prelude.{◌≤◌, ℕ, ◌+◌, List, [], ◌∷◌, length, take, drop, slice_set}
+pub use Rattle.storage_model.specs.Granule.{page_at}
 use Rattle.storage_model.specs.Granule.{granule}
 use Rattle.storage_model.specs.declared.block.Block.{Block}
 use Rattle.image_form.specs.declared.gate.Gate.{Gate}
 use Rattle.image_form.specs.declared.gate.Gate.TheVariants.{Shut, Ajar}
 use Rattle.image_form.specs.Form.{IsSuper, IsGate, gate_numbered, number_at}
-
-abbrev pub page_at : List Block → ℕ → Block
-page_at pages page = slice_index_or pages page (record { 0 = [] })
 
 -- the number of sectors that the superblock tells
 unfoldable pub sectors_of : List Block → ℕ

@@ -35,16 +35,19 @@ abbrev pub IsOldOrNew : Option (List Block) → ℕ → Block → Option (List B
 IsOldOrNew old sector block new = (new ≡ old) ⊎ (new ≡ with_page old sector block)
 
 -- How a call of an intent store ends. An array that tells its pages goes on telling them, and one that doesn't tells none.
--- Counts don't fall. `Flash` is told only where the array failed in this call, `PowerLost` only where the power was cut in
--- this call or was off.
+-- Counts don't fall. `Flash` is told only where the array failed in this call and was not cut, `PowerLost` only where the
+-- power was cut in this call or was off, and the array did not fail. A call that ends well neither failed nor was cut.
 pub record StoreEnds {T : Type 0} (old new : ArrayState) (result : Result T StoreEnd) : Type 0 where
   pub count : new.count ≡ old.count
   pub tells : is_some new.told ≡ is_some old.told
   pub faults : Later old.faults new.faults
   pub cuts : Later old.cuts new.cuts
   pub ok : OnOk result (new.powered ≡ old.powered)
+  pub calm : OnOk result ((new.faults ≡ old.faults) × (new.cuts ≡ old.cuts))
   pub flash : IsErrOf result Flash → Rose old.faults new.faults × (old.powered ≡ true) × (new.powered ≡ true)
+  pub uncut : IsErrOf result Flash → new.cuts ≡ old.cuts
   pub lost : IsErrOf result PowerLost → (Rose old.cuts new.cuts ⊎ (old.powered ≡ false)) × (new.powered ≡ false)
+  pub unfailed : IsErrOf result PowerLost → new.faults ≡ old.faults
 
 -- an opening hands on why a call of it ended
 abbrev pub start_end : StoreEnd → StartEnd
@@ -52,16 +55,20 @@ start_end Flash = StartFlash
 start_end PowerLost = StartPowerLost
 
 -- How an opening ends. It begins with the power on. An array that tells its pages goes on telling them, and one that doesn't
--- tells none. Counts don't fall, and `Flash` and `PowerLost` are told only where the array failed or was cut in this call.
+-- tells none. Counts don't fall. `Flash` is told only where the array failed in this call and was not cut, `PowerLost` only
+-- where it was cut and did not fail; else it neither failed nor was cut.
 pub record StartEnds {T : Type 0} (old new : ArrayState) (result : Result T StartEnd) : Type 0 where
   pub count : new.count ≡ old.count
   pub tells : is_some new.told ≡ is_some old.told
   pub faults : Later old.faults new.faults
   pub cuts : Later old.cuts new.cuts
   pub ok : OnOk result (new.powered ≡ true)
+  pub calm : OnOk result ((new.faults ≡ old.faults) × (new.cuts ≡ old.cuts))
   pub flash : IsErrOf result StartFlash → Rose old.faults new.faults × (new.powered ≡ true)
+  pub uncut : IsErrOf result StartFlash → new.cuts ≡ old.cuts
   pub lost : IsErrOf result StartPowerLost → Rose old.cuts new.cuts × (new.powered ≡ false)
-  pub bad : IsErrOf result BadImage → new.powered ≡ true
+  pub unfailed : IsErrOf result StartPowerLost → new.faults ≡ old.faults
+  pub bad : IsErrOf result BadImage → (new.powered ≡ true) × (new.faults ≡ old.faults) × (new.cuts ≡ old.cuts)
 
 -- the array shows an image, where it tells its pages
 abbrev pub ShowsImage : ArrayState → Type 0

@@ -16,6 +16,11 @@ abbrev pub place_of : Gate → ℕ → ℕ
 place_of Shut sector = 8 + sector
 place_of (Ajar ajar) sector = if ajar == sector then 2 else 8 + sector
 
+-- the gate that a block is, for an image of so many sectors; a block that is none counts as shut
+pub record GateIn (block : Block) (sectors : ℕ) (gate : Gate) : Type 0 where
+  pub is : (found : Gate) → IsGate block sectors found → gate ≡ found
+  pub none : ((found : Gate) → IsGate block sectors found → ⊥) → gate ≡ Shut
+
 -- A page was written: whole where the call ended well, and else each of its granules is old or new.
 pub record IsWritten (old : Option (List Block)) (page : ℕ) (block : Block) (new : Option (List Block)) (result : Result (Unit {0}) StoreEnd) : Type 0 where
   pub left : Block

@@ -6,7 +6,7 @@ ghost use Rattle.image_form.specs.Image.{PageCall, Fetch, IsImage, Program, fini
 ghost use Rattle.intent_store.specs.declared.ends.StartEnd.TheVariants.{BadImage};
 ghost use Rattle.intent_store.specs.Calls.{IsCall, Makes, Opens};
 ghost use Rattle.intent_store.specs.Intent.{Known, IntentStands, IsNoImage, IsOldOrNew, ShowsImage, StartEnds, StoreEnds, IsRefusedOff, shown_by};
-ghost use Rattle.intent_store.specs.Steps.{IsOpening, IsWritten, IsMoved, after_gate, place_of, intent_by, with_intent};
+ghost use Rattle.intent_store.specs.Steps.{GateIn, IsOpening, IsWritten, IsMoved, after_gate, place_of, intent_by, with_intent};
 
 use crate::pages::{fetch, program};
 use crate::{StartEnd, StoreEnd};
@@ -104,7 +104,7 @@ impl Intent {
         ensures stands { IntentStands self.new (A.state array.new) }
         ensures sectors { self.new.sectors ≡ self.old.sectors }
         ensures read { OnOk result (HasPage (shown_by (A.state array.old)) sector block.new) }
-        ensures told { (A.state array.new).told ≡ (A.state array.old).told }
+        ensures same { A.state array.new ≡ record (A.state array.old) { faults = (A.state array.new).faults; fetches = (A.state array.new).fetches } }
         ensures ends { StoreEnds (A.state array.old) (A.state array.new) result }
         ensures off { IsRefusedOff (A.state array.old) (A.state array.new) result }
     {
@@ -155,7 +155,7 @@ impl Intent {
         self.finish(sector, block, array)
     }
 
-    // The gate, fetched where it is in doubt. Where an array that tells no pages gives no gate, it counts as shut.
+    // The gate, fetched where it is in doubt.
     fn look<A: Array>(&mut self, array: &mut A) -> Result<Gate, StoreEnd>
         requires { IntentStands self.old (A.state array.old) }
         ensures stands { IntentStands self.new (A.state array.new) }
@@ -163,7 +163,7 @@ impl Intent {
         ensures gate { IfOk result (λ gate. self.new.gate ≡ Some gate) }
         ensures within { IfOk result (λ gate. gate_number gate ≤ self.new.sectors) }
         ensures most { self.new.sectors ≤ 65536 }
-        ensures told { (A.state array.new).told ≡ (A.state array.old).told }
+        ensures same { A.state array.new ≡ record (A.state array.old) { faults = (A.state array.new).faults; fetches = (A.state array.new).fetches } }
         ensures ends { StoreEnds (A.state array.old) (A.state array.new) result }
         ensures off { (A.state array.old).powered ≡ false → A.state array.new ≡ A.state array.old }
         ensures calls { IsSome self.old.gate → (IfOk result (λ gate. self.old.gate ≡ Some gate)) × (is_ok result ≡ true) × ((A.state array.new) ≡ (A.state array.old)) }
@@ -173,7 +173,7 @@ impl Intent {
         }
         let mut block = Block([0; 512]);
         fetch(array, 1, &mut block)?;
-        let gate = read_gate(&block, self.sectors).unwrap_or(Gate::Shut);
+        let gate = gate_in(&block, self.sectors);
         self.gate = Some(gate);
         Ok(gate)
     }
@@ -359,6 +359,14 @@ fn page_of(gate: Gate, sector: u32) -> u32
         Gate::Ajar(ajar) if ajar == sector => 2,
         _ => 8 + sector,
     }
+}
+
+// The gate that page 1 tells. A page that is no gate counts as shut.
+fn gate_in(block: &Block, sectors: u32) -> Gate
+    ensures is { GateIn block.now sectors result }
+    ensures within { gate_number result ≤ sectors }
+{
+    read_gate(block, sectors).unwrap_or(Gate::Shut)
 }
 
 // What page 0 and page 1 tell of an image on so many pages. None comes exactly where they are no image.

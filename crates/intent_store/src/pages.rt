@@ -1,4 +1,4 @@
-ghost use Rattle.std.specs.Prelude.{◌≡◌, ◌<◌, true, OnOk, OnErr};
+ghost use Rattle.std.specs.Prelude.{◌≡◌, ◌<◌, true, false, OnOk, OnErr};
 ghost use Rattle.image_form.specs.Image.{Fetch, Program};
 ghost use Rattle.array_edge.specs.Array.{ArrayState, HasPage, IsTorn, with_page};
 ghost use Rattle.intent_store.specs.Intent.{StoreEnds, IsRefusedOff};
@@ -13,8 +13,7 @@ use storage_model::Block;
 pub fn fetch<A: Array>(array: &mut A, page: u32, block: &mut Block) -> Result<(), StoreEnd>
     requires { page < (A.state array.old).count }
     ensures read { OnOk result (HasPage (A.state array.old).told page block.new) }
-    ensures told { (A.state array.new).told ≡ (A.state array.old).told }
-    ensures programs { (A.state array.new).programs ≡ (A.state array.old).programs }
+    ensures same { A.state array.new ≡ record (A.state array.old) { faults = (A.state array.new).faults; fetches = (A.state array.new).fetches } }
     ensures ends { StoreEnds (A.state array.old) (A.state array.new) result }
     ensures off { IsRefusedOff (A.state array.old) (A.state array.new) result }
     ensures call { (A.state array.old).powered ≡ true → IsCall (Fetch page) (A.state array.old) (A.state array.new) result }
@@ -31,6 +30,7 @@ pub fn fetch<A: Array>(array: &mut A, page: u32, block: &mut Block) -> Result<()
 pub fn program<A: Array>(array: &mut A, page: u32, block: &Block) -> Result<(), StoreEnd>
     requires { page < (A.state array.old).count }
     ensures written { IsWritten (A.state array.old).told page block.now (A.state array.new).told result }
+    ensures unsettled { OnOk result ((A.state array.new).settled ≡ false) }
     ensures ends { StoreEnds (A.state array.old) (A.state array.new) result }
     ensures off { IsRefusedOff (A.state array.old) (A.state array.new) result }
     ensures call { (A.state array.old).powered ≡ true → IsCall (Program page) (A.state array.old) (A.state array.new) result }

@@ -1,4 +1,4 @@
-use Rattle.std.proofs.Common.{rules, refl, ap, ◌∷◌, ℕ, List, sym, subst, ◌∙◌}
+use Rattle.std.proofs.Common.{◌≡◌, rules, refl, ap, ◌∷◌, ℕ, List, sym, subst, ◌∙◌}
 use Rattle.image_form.specs.Image.{Fetch}
 use Rattle.intent_store.proofs.CallLemmas.{ended_call, next_call}
 use Rattle.std.specs.Prelude.{is_ok, Option, IfSome, IsNone}
@@ -15,10 +15,10 @@ returns-clause-stands g c =
     let First : Option (List Block) → Type 0 = λ t. HasPage t 0 c.fetch.new.block in
     let Second : Option (List Block) → Type 0 = λ t. HasPage t 1 c.fetch-2.new.block in
     let P : ℕ → Type 0 = λ n. IfSome c.judge.result (IsOpening c.fetch.new.block c.fetch-2.new.block n) in
-    let told = c.in_ok-fetch-2.ensures.told ∙ c.in_ok-fetch.ensures.told in
+    let told : (g.A.Array.state c.fetch-2.new.array).told ≡ (g.A.Array.state c.args.array.now).told = ap (λ s. s.told) c.in_ok-fetch-2.ensures.same ∙ ap (λ s. s.told) c.in_ok-fetch.ensures.same in
     found_stands (g.A.Array.state c.fetch-2.new.array) c.fetch.new.block c.fetch-2.new.block c.judge.result c.ok_or.result
     (g.met.A.Array.told_count c.fetch-2.new.array) (subst First (sym told) c.in_ok-fetch.ensures.read)
-    (subst Second (sym c.in_ok-fetch-2.ensures.told) c.in_ok-fetch-2.ensures.read)
+    (subst Second (sym (ap (λ s. s.told) c.in_ok-fetch-2.ensures.same)) c.in_ok-fetch-2.ensures.read)
     (subst P c.pages-2.ensures c.judge.ensures.some) c.ok_or.ensures.value
 
 pub returns-clause-bad : goal.returns-clause-bad
@@ -27,10 +27,10 @@ returns-clause-bad g c bad =
     let Second : Option (List Block) → Type 0 = λ t. HasPage t 1 c.fetch-2.new.block in
     let P : ℕ → Type 0 = λ n. (known : Known) → IsOpening c.fetch.new.block c.fetch-2.new.block n known → IsNone c.judge.result → ⊥ in
     let N : Option (List Block) → Type 0 = λ t. IfSome t (λ pages. IsImage pages → ⊥) in
-    let told = c.in_ok-fetch-2.ensures.told ∙ c.in_ok-fetch.ensures.told in
+    let told : (g.A.Array.state c.fetch-2.new.array).told ≡ (g.A.Array.state c.args.array.now).told = ap (λ s. s.told) c.in_ok-fetch-2.ensures.same ∙ ap (λ s. s.told) c.in_ok-fetch.ensures.same in
     subst N told (found_bad (g.A.Array.state c.fetch-2.new.array) c.fetch.new.block c.fetch-2.new.block c.judge.result c.ok_or.result
     (g.met.A.Array.told_count c.fetch-2.new.array) (subst First (sym told) c.in_ok-fetch.ensures.read)
-    (subst Second (sym c.in_ok-fetch-2.ensures.told) c.in_ok-fetch-2.ensures.read)
+    (subst Second (sym (ap (λ s. s.told) c.in_ok-fetch-2.ensures.same)) c.in_ok-fetch-2.ensures.read)
     (subst P c.pages-2.ensures c.judge.ensures.none) c.ok_or.ensures.value bad)
 
 pub returns-in_err-fetch-clause-failed : goal.returns-in_err-fetch-clause-failed
