@@ -7,7 +7,8 @@ use Rattle.std.proofs.lemmas.List.Elements.{All-nil, All-cons, All-head, All-tai
 use Rattle.fault_text.specs.declared.line.FaultLine.{FaultLine}
 use Rattle.fault_text.specs.declared.line.FaultLine.TheVariants.{Ready, Bus, Program, Fetch, Cut, Turn}
 use Rattle.fault_text.specs.declared.tally.Tally.{Tally}
-use Rattle.fault_text.specs.Faults.{AreWithin, AreRising, array_of, bus_number, bus_of, cuts_of, faults_of, fetch_number, letters_of, program_number, ready_of}
+use Rattle.storage_model.specs.Faults.{AreRising}
+use Rattle.fault_text.specs.Faults.{AreWithin, array_of, bus_number, bus_of, cuts_of, faults_of, fetch_number, letters_of, program_number, ready_of}
 use Rattle.fault_text.specs.Lines.{IsLine}
 use Rattle.fault_text.specs.Tally.{Follows, IsWithin, with_faults, with_line}
 use Rattle.fault_text.proofs.Rises.{past_of, past_kept, past_more, rises_front, rising_kept, rising_more, rising_past}

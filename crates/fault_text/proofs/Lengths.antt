@@ -9,7 +9,7 @@ use Rattle.fault_text.specs.declared.line.FaultLine.{FaultLine}
 use Rattle.fault_text.specs.declared.line.FaultLine.TheVariants.{Ready, Bus, Program, Fetch, Cut, Turn}
 use Rattle.fault_text.specs.Faults.{letters_of, texts}
 use Rattle.fault_text.specs.Lines.{IsLine, fault_word, letter_byte, line_text}
-use Rattle.fault_text.proofs.HexNumbers.{number_short}
+use Rattle.text_words.proofs.HexNumbers.{number_of_8}
 
 decimal_short : (n : ℕ) → n < 2 ^ 32 → length (decimal n) ≤ 10
 decimal_short n fits = length-decimal-le 10 n (omega arith) (omega arith) (omega arith)
@@ -20,12 +20,12 @@ fault_short false = omega arith
 
 pub line_text-short : (fault : FaultLine) → IsLine fault → length (line_text fault) ≤ 40 + length (letters_of fault)
 unfolding line_text
-line_text-short (Ready mask) valid = simp length-append (omega (arith, number_short mask))
+line_text-short (Ready mask) valid = simp length-append (omega (arith, number_of_8 mask valid))
 line_text-short (Bus n Lost) valid = simp length-append (omega (arith, decimal_short n (omega (arith, valid.1))))
 line_text-short (Bus n NoResp) valid = simp length-append (omega (arith, decimal_short n (omega (arith, valid.1))))
 line_text-short (Bus n (Bad block)) valid = simp length-append (omega (arith, decimal_short n (omega (arith, valid.1)), decimal_short block (omega (arith, valid.2.1))))
 line_text-short (Bus n Late) valid = simp length-append (omega (arith, decimal_short n (omega (arith, valid.1))))
-line_text-short (Program n cut mask) valid = simp length-append (omega (arith, number_short mask, decimal_short n valid.1, fault_short cut))
+line_text-short (Program n cut mask) valid = simp length-append (omega (arith, number_of_8 mask (omega (arith, valid.2)), decimal_short n valid.1, fault_short cut))
 line_text-short (Fetch n) valid = simp length-append (omega (arith, decimal_short n valid.1))
 line_text-short (Cut n) valid = simp length-append (omega (arith, decimal_short n valid))
 line_text-short (Turn letters) valid = simp length-append (omega (arith, length-map letters letter_byte))

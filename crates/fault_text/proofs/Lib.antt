@@ -1,5 +1,4 @@
 pub mod Counts
-pub mod HexNumbers
 pub mod Lengths
 pub mod Letters
 pub mod LineWords

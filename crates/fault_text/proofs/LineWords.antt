@@ -15,8 +15,10 @@ use Rattle.fault_text.specs.declared.keyword.Keyword.{Keyword}
 use Rattle.fault_text.specs.declared.keyword.Keyword.TheVariants.{Ready as ReadyWord, Bus as BusWord, Program as ProgramWord, Fetch as FetchWord, Cut as CutWord, Turn as TurnWord}
 use Rattle.fault_text.specs.declared.line.FaultLine.{FaultLine}
 use Rattle.fault_text.specs.declared.line.FaultLine.TheVariants.{Ready, Bus, Program, Fetch, Cut, Turn}
-use Rattle.fault_text.specs.Lines.{IsKind, IsLine, fault_word, hex_number, keyword_text, kind_words, letter_byte, line_text, line_words}
-use Rattle.fault_text.proofs.HexNumbers.{hex_number-injective, number_word}
+use Rattle.storage_model.specs.Faults.{IsKind}
+use Rattle.fault_text.specs.Lines.{IsLine, fault_word, keyword_text, kind_words, letter_byte, line_text, line_words}
+use Rattle.text_words.specs.HexNumber.{hex_number}
+use Rattle.text_words.proofs.HexNumbers.{hex_number-injective, number_word}
 use Rattle.fault_text.proofs.Letters.{letters_word, same_letters}
 
 -- the first byte of the first word, which tells lines apart
@@ -60,10 +62,10 @@ kind_plain (Bad block) valid = All-cons IsWord (codes "data") (decimal block ∷
 kind_plain Late valid = All-cons IsWord (codes "late") [] (word_from_test (codes "late") refl) (All-nil IsWord)
 
 pub line_words-plain : (fault : FaultLine) → IsLine fault → All IsWord (line_words fault)
-line_words-plain (Ready mask) valid = All-cons IsWord (codes "ready") (hex_number mask ∷ []) (word_from_test (codes "ready") refl) (All-cons IsWord (hex_number mask) [] (number_word mask) (All-nil IsWord))
+line_words-plain (Ready mask) valid = All-cons IsWord (codes "ready") (hex_number mask ∷ []) (word_from_test (codes "ready") refl) (All-cons IsWord (hex_number mask) [] (number_word mask (omega (arith, valid))) (All-nil IsWord))
 line_words-plain (Bus n kind) valid = All-cons IsWord (codes "bus") (decimal n ∷ kind_words kind) (word_from_test (codes "bus") refl) (All-cons IsWord (decimal n) (kind_words kind) (decimal_word n (omega (arith, valid.1))) (kind_plain kind valid.2))
 line_words-plain (Program n cut mask) valid = All-cons IsWord (codes "program") (decimal n ∷ fault_word cut ∷ hex_number mask ∷ []) (word_from_test (codes "program") refl)
-    (All-cons IsWord (decimal n) (fault_word cut ∷ hex_number mask ∷ []) (decimal_word n valid.1) (All-cons IsWord (fault_word cut) (hex_number mask ∷ []) (fault_plain cut) (All-cons IsWord (hex_number mask) [] (number_word mask) (All-nil IsWord))))
+    (All-cons IsWord (decimal n) (fault_word cut ∷ hex_number mask ∷ []) (decimal_word n valid.1) (All-cons IsWord (fault_word cut) (hex_number mask ∷ []) (fault_plain cut) (All-cons IsWord (hex_number mask) [] (number_word mask (omega (arith, valid.2))) (All-nil IsWord))))
 line_words-plain (Fetch n) valid = All-cons IsWord (codes "fetch") (decimal n ∷ codes "fail" ∷ []) (word_from_test (codes "fetch") refl) (All-cons IsWord (decimal n) (codes "fail" ∷ []) (decimal_word n valid.1) (All-cons IsWord (codes "fail") [] (word_from_test (codes "fail") refl) (All-nil IsWord)))
 line_words-plain (Cut n) valid = All-cons IsWord (codes "cut") (decimal n ∷ []) (word_from_test (codes "cut") refl) (All-cons IsWord (decimal n) [] (decimal_word n valid) (All-nil IsWord))
 line_words-plain (Turn letters) valid = All-cons IsWord (codes "turn") (map letter_byte letters ∷ []) (word_from_test (codes "turn") refl) (All-cons IsWord (map letter_byte letters) [] (letters_word letters) (All-nil IsWord))
@@ -149,7 +151,7 @@ same_kind Late Late valid sound e = refl
 
 -- a line is determined by its words
 pub same_line : (fault other : FaultLine) → IsLine fault → IsLine other → line_words fault ≡ line_words other → fault ≡ other
-same_line (Ready mask) (Ready mask2) valid sound same = ap Ready (hex_number-injective mask mask2 valid sound (cc))
+same_line (Ready mask) (Ready mask2) valid sound same = ap Ready (hex_number-injective mask mask2 (omega (arith, valid)) (omega (arith, sound)) (cc))
 same_line (Ready mask) (Bus m kind2) valid sound same = absurd (omega (arith, ap first_byte same))
 same_line (Ready mask) (Program m cut2 mask2) valid sound same = absurd (omega (arith, ap first_byte same))
 same_line (Ready mask) (Fetch m) valid sound same = absurd (omega (arith, ap first_byte same))

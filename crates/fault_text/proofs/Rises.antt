@@ -6,7 +6,7 @@ use Rattle.std.proofs.Math.Seq.{get_or-append_seam}
 use Rattle.std.proofs.lemmas.Grind.{flat_map-append}
 use Rattle.std.proofs.lemmas.List.{append-nil, get_or-map, length-append, length-map}
 use Rattle.std.proofs.lemmas.List.Quantifiers.{all_pairs_push}
-use Rattle.fault_text.specs.Faults.{AreRising}
+use Rattle.storage_model.specs.Faults.{AreRising}
 use Rattle.fault_text.specs.declared.line.FaultLine.{FaultLine}
 
 -- the least number above all of these

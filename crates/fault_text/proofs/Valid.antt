@@ -8,7 +8,8 @@ use Rattle.storage_model.specs.declared.faults.Faults.{Faults}
 use Rattle.storage_model.specs.declared.faults.Hit.{Hit}
 use Rattle.fault_text.specs.declared.line.FaultLine.{FaultLine}
 use Rattle.fault_text.specs.declared.line.FaultLine.TheVariants.{Ready, Bus, Program, Fetch, Cut, Turn}
-use Rattle.fault_text.specs.Faults.{AreRising, AreValid, AreWithin, IsHit, IsValidHits, Means, array_of, bus_number, bus_of, faults_of, fetch_number, program_number}
+use Rattle.storage_model.specs.Faults.{AreRising, AreValid, IsHit, IsValidHits}
+use Rattle.fault_text.specs.Faults.{AreWithin, Means, array_of, bus_number, bus_of, faults_of, fetch_number, program_number}
 use Rattle.fault_text.specs.Lines.{IsLine}
 use Rattle.fault_text.proofs.Rises.{rises_head, rises_map, rises_tail}
 
@@ -47,6 +48,17 @@ one_uncut (Ready mask) valid = All-nil IsUncut
 one_uncut (Bus n kind) valid = All-nil IsUncut
 one_uncut (Cut n) valid = All-nil IsUncut
 one_uncut (Turn letters) valid = All-nil IsUncut
+
+abbrev IsMask : ArrayHit → Type 0
+IsMask hit = hit.mask < 2 ^ 8
+
+one_mask : (line : FaultLine) → IsLine line → All IsMask (array_of line)
+one_mask (Program n cut mask) valid = All-cons IsMask (record { fetch = false; n = n; cut = cut; mask = mask }) [] valid.2 (All-nil IsMask)
+one_mask (Fetch n) valid = All-cons IsMask (record { fetch = true; n = n; cut = false; mask = 0 }) [] (omega arith) (All-nil IsMask)
+one_mask (Ready mask) valid = All-nil IsMask
+one_mask (Bus n kind) valid = All-nil IsMask
+one_mask (Cut n) valid = All-nil IsMask
+one_mask (Turn letters) valid = All-nil IsMask
 
 -- the numbers of the bus faults are those of their lines
 hit_numbers : (lines : List FaultLine) → map (λ (hit : Hit). hit.n) (flat_map bus_of lines) ≡ flat_map bus_number lines
@@ -112,6 +124,7 @@ lines_valid lines within = record {
     numbers = each_added IsNumbered array_of one_numbered lines within.each;
     rising = array_rising lines within.programs within.fetches;
     uncut = each_added IsUncut array_of one_uncut lines within.each;
+    masks = each_added IsMask array_of one_mask lines within.each;
   };
   cuts = within.cuts;
 }

@@ -1,5 +1,6 @@
 -- Fault texts: what their lines mean together, and the first bad line.
-use Rattle.std.specs.Prelude.{◌≡◌, ◌≢◌, ℕ, ◌+◌, ◌^◌, ◌<◌, ◌≤◌, true, false, List, [], ◌∷◌, ◌++◌, length, All, AllPairs, flat_map}
+use Rattle.std.specs.Prelude.{◌≡◌, ◌≢◌, ℕ, ◌+◌, ◌≤◌, true, false, List, [], ◌∷◌, ◌++◌, length, All, flat_map}
+use Rattle.storage_model.specs.Faults.{AreRising}
 use Rattle.storage_model.specs.declared.ends.TextEnd.{TextEnd}
 use Rattle.storage_model.specs.declared.ends.TextEnd.TheVariants.{Bad as BadLine, NoMemory}
 use Rattle.storage_model.specs.declared.faults.ArrayHit.{ArrayHit}
@@ -8,7 +9,7 @@ use Rattle.storage_model.specs.declared.faults.Hit.{Hit}
 use Rattle.storage_model.specs.declared.faults.Letter.{Letter}
 use Rattle.fault_text.specs.declared.line.FaultLine.{FaultLine}
 use Rattle.fault_text.specs.declared.line.FaultLine.TheVariants.{Ready, Bus, Program, Fetch, Cut, Turn}
-use Rattle.fault_text.specs.Lines.{IsKind, IsLine, line_text}
+use Rattle.fault_text.specs.Lines.{IsLine, line_text}
 
 -- what a line adds to each list of faults
 abbrev pub ready_of : FaultLine → List ℕ
@@ -55,9 +56,6 @@ abbrev pub fetch_number : FaultLine → List ℕ
 fetch_number (Fetch n) = n ∷ []
 fetch_number _ = []
 
-abbrev pub AreRising : List ℕ → Type 0
-AreRising numbers = AllPairs (λ n later. n < later) numbers
-
 -- lines that one text can have: not more than 4,096, with not more than 65,536 letters, and rising numbers in each kind
 pub record AreWithin (lines : List FaultLine) : Type 0 where
   pub each : All IsLine lines
@@ -94,24 +92,3 @@ IsBadAt bytes line = (good : List FaultLine) × (rest : List ℕ) × IsBadAfter 
 abbrev pub IsRefused : List ℕ → TextEnd → Type 0
 IsRefused bytes (BadLine line) = IsBadAt bytes line
 IsRefused bytes NoMemory = Unit {0}
-
--- bus faults whose numbers rise
-abbrev pub IsValidHits : List Hit → Type 0
-IsValidHits hits = AllPairs (λ hit later. hit.n < later.n) hits
-
--- a command's number is from 1 to 2 ^ 32 - 2, a block's from 1 to 1,024
-abbrev pub IsHit : Hit → Type 0
-IsHit hit = (1 ≤ hit.n) × (hit.n ≤ 4294967294) × IsKind hit.kind
-
--- The numbers are from 1 to 2 ^ 32 - 1 and rise among the fetches and among the programs, and no fetch is cut.
-pub record IsValidArrayHits (hits : List ArrayHit) : Type 0 where
-  pub numbers : All (λ hit. (1 ≤ hit.n) × (hit.n < 2 ^ 32)) hits
-  pub rising : AllPairs (λ hit later. hit.fetch ≡ later.fetch → hit.n < later.n) hits
-  pub uncut : All (λ hit. hit.fetch ≡ true → hit.cut ≡ false) hits
-
--- faults whose numbers are within their limits and rise
-pub record AreValid (faults : Faults) : Type 0 where
-  pub hits : All IsHit faults.bus
-  pub bus : IsValidHits faults.bus
-  pub array : IsValidArrayHits faults.array
-  pub cuts : AreRising faults.cuts

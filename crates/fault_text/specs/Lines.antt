@@ -1,6 +1,8 @@
 -- The lines of a fault text. The grammar is said by writing: each line has exactly one text.
-use Rattle.std.specs.Prelude.{ℕ, ◌^◌, ◌<◌, ◌≤◌, ◌==◌, Bool, true, false, if◌then◌else◌, List, [], ◌∷◌, length, map, codes, decimal}
-use Rattle.text_words.specs.Words.{line, hex_word}
+use Rattle.std.specs.Prelude.{ℕ, ◌^◌, ◌<◌, ◌≤◌, Bool, true, false, List, [], ◌∷◌, length, map, codes, decimal}
+use Rattle.text_words.specs.HexNumber.{hex_number}
+use Rattle.text_words.specs.Words.{line}
+use Rattle.storage_model.specs.Faults.{IsHit}
 use Rattle.storage_model.specs.declared.faults.BusKind.{BusKind}
 use Rattle.storage_model.specs.declared.faults.BusKind.TheVariants.{Lost, NoResp, Bad, Late}
 use Rattle.storage_model.specs.declared.faults.Letter.{Letter}
@@ -18,16 +20,6 @@ keyword_text ProgramWord = codes "program"
 keyword_text FetchWord = codes "fetch"
 keyword_text CutWord = codes "cut"
 keyword_text TurnWord = codes "turn"
-
--- digits without the zeros in front of them, but at least one
-unfoldable pub without_zeros : List ℕ → List ℕ
-without_zeros [] = []
-without_zeros (digit ∷ []) = digit ∷ []
-without_zeros (digit ∷ next ∷ digits) = if digit == 48 then without_zeros (next ∷ digits) else digit ∷ next ∷ digits
-
--- a hexadecimal number of 32 bits: lower case digits, with no leading zero but `0` itself
-abbrev pub hex_number : ℕ → List ℕ
-hex_number number = without_zeros (hex_word number)
 
 -- `h` the host, `e` the engine, `c` the card, `x` a cut
 abbrev pub letter_byte : Letter → ℕ
@@ -61,15 +53,10 @@ line_words (Turn letters) = codes "turn" ∷ map letter_byte letters ∷ []
 unfoldable pub line_text : FaultLine → List ℕ
 line_text fault = line (line_words fault)
 
--- data fails at a block from 1 to 1,024
-abbrev pub IsKind : BusKind → Type 0
-IsKind (Bad block) = (1 ≤ block) × (block ≤ 1024)
-IsKind _ = Unit {0}
-
 -- the numbers of a line are within their limits, and a line of letters has from 1 to 65,536
 abbrev pub IsLine : FaultLine → Type 0
 IsLine (Ready mask) = mask < 2 ^ 32
-IsLine (Bus n kind) = (1 ≤ n) × (n ≤ 4294967294) × IsKind kind
+IsLine (Bus n kind) = IsHit (record { n = n; kind = kind })
 IsLine (Program n cut mask) = (1 ≤ n) × (n < 2 ^ 32) × (mask < 2 ^ 8)
 IsLine (Fetch n) = (1 ≤ n) × (n < 2 ^ 32)
 IsLine (Cut n) = n < 2 ^ 32

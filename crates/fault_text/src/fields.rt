@@ -1,12 +1,14 @@
 // What stands in a line after the word that names it.
 ghost use Rattle.std.specs.Prelude.{◌≡◌, ℕ, List, ◌∷◌, [], ◌^◌, ◌<◌, ◌≤◌, IfOk, MatchOption, codes, decimal, length, map};
 ghost use Rattle.text_words.specs.Reads.{Reads};
-ghost use Rattle.fault_text.specs.Lines.{IsKind, fault_word, hex_number, kind_words, letter_byte};
+ghost use Rattle.storage_model.specs.Faults.{IsKind};
+ghost use Rattle.text_words.specs.HexNumber.{hex_number};
+ghost use Rattle.fault_text.specs.Lines.{fault_word, kind_words, letter_byte};
 
-use crate::numbers::{read_hex, read_mask, read_number};
+use crate::numbers::read_number;
 use std::alloc::Global;
 use storage_model::{BusKind, Letter, LetterList, NoMemory};
-use text_words::{Words, read_decimal, read_decimal_in};
+use text_words::{Words, read_decimal, read_decimal_in, read_hex_u8, read_hex_u32};
 
 const LAST_COMMAND: u32 = 4_294_967_294;
 
@@ -18,7 +20,7 @@ const MAX_LETTERS: usize = 65_536;
 pub fn last_hex(mut words: Words) -> Option<u32>
     ensures { Reads result (λ mask. (mask < 2 ^ 32) × (words.entry ≡ hex_number mask ∷ [])) }
 {
-    let mask = read_hex(words.next()?)?;
+    let mask = read_hex_u32(words.next()?)?;
     words.end()?;
     Some(mask)
 }
@@ -95,7 +97,7 @@ pub fn program_fields(mut words: Words) -> Option<(u32, bool, u8)>
 {
     let number = read_number(words.next()?, 1, u32::MAX)?;
     let cut = is_cut(words.next()?)?;
-    let mask = read_mask(words.next()?)?;
+    let mask = read_hex_u8(words.next()?)?;
     words.end()?;
     Some((number, cut, mask))
 }

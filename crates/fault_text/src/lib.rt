@@ -12,6 +12,3 @@ mod tally;
 
 pub use line::FaultLine;
 pub use read::read_faults;
-
-#[cfg(test)]
-mod tests;

@@ -3,7 +3,8 @@ ghost use Rattle.std.specs.Prelude.{◌≡◌, ◌≤◌, ◌++◌, [], length, 
 ghost use Rattle.storage_model.specs.declared.faults.Faults.{Faults};
 ghost use Rattle.storage_model.specs.declared.ends.TextEnd.TheVariants.{NoMemory as OutOfMemory};
 ghost use Rattle.fault_text.specs.declared.line.FaultLine.{FaultLine};
-ghost use Rattle.fault_text.specs.Faults.{AreValid, IsRefused, Means, faults_of};
+ghost use Rattle.storage_model.specs.Faults.{AreValid};
+ghost use Rattle.fault_text.specs.Faults.{IsRefused, Means, faults_of};
 ghost use Rattle.fault_text.specs.Tally.{IsNext, IsWithin, with_faults, with_line};
 
 use crate::line::{FaultLine, read_line};

@@ -5,6 +5,3 @@ mod draws;
 mod plan;
 
 pub use plan::load_plan;
-
-#[cfg(test)]
-mod tests;

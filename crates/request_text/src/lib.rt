@@ -9,6 +9,3 @@ mod setting;
 
 pub use read::read_requests;
 pub use setting::{Kind, Setting};
-
-#[cfg(test)]
-mod tests;

@@ -8,6 +8,3 @@ mod requests;
 
 pub use faults::read_faults;
 pub use requests::read_requests;
-
-#[cfg(test)]
-mod tests;

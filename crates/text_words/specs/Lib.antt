@@ -1,2 +1,3 @@
+pub mod HexNumber
 pub mod Reads
 pub mod Words
