@@ -1,4 +1,4 @@
-ghost use Rattle.std.specs.Prelude.{◌≡◌, IsErr, List, [], None, Some, length, ◌≤◌, IfOk, OnErr};
+ghost use Rattle.std.specs.Prelude.{◌≡◌, IsErr, List, [], None, Some, length, ◌≤◌, IfOk, OnOk, OnErr};
 ghost use Rattle.storage_model.specs.Count.{Later, RaisedByOne, Rose};
 ghost use Rattle.io_edge.specs.Counter.{counted};
 ghost use Rattle.io_edge.specs.Source.{Fills};
@@ -92,6 +92,7 @@ impl<R: Read> Source for AnySource<R> {
         ensures within { IfOk result (λ n. n ≤ length buf.old) }
         ensures moved { Fills (any_left self.old) buf.new result (any_left self.new) }
         ensures faults { Later (any_faults self.old) (any_faults self.new) }
+        ensures calm { OnOk result (any_faults self.new ≡ any_faults self.old) }
         ensures failed { OnErr result (Rose (any_faults self.old) (any_faults self.new)) }
         ensures unopened { IsUnopened self.old → IsErr result × IsUnopened self.new }
     {

@@ -1,4 +1,4 @@
-ghost use Rattle.std.specs.Prelude.{◌≡◌, ◌↔◌, ◌⊎◌, ◌+◌, ◌-◌, ◌^◌, ◌<◌, ◌≤◌, [], Contains, IsErr, length, min, IfOk, MatchResult, OnErr};
+ghost use Rattle.std.specs.Prelude.{◌≡◌, ◌↔◌, ◌⊎◌, ◌+◌, ◌-◌, ◌^◌, ◌<◌, ◌≤◌, [], Contains, IsErr, length, min, IfOk, MatchResult, OnOk, OnErr};
 ghost use Rattle.std.specs.Io.Iter.{u64_saturate};
 ghost use Rattle.storage_model.specs.Count.{Later, RaisedByOne, Rose};
 ghost use Rattle.io_edge.specs.Counter.{counted};
@@ -78,6 +78,7 @@ impl Sink for MemSink {
         ensures progress { IfOk result (λ n. 0 < length piece.now → 0 < n) }
         ensures taken { Puts Grew self.old piece.now result self.new }
         ensures faults { Later (counted self.old.faults) (counted self.new.faults) }
+        ensures calm { OnOk result (counted self.new.faults ≡ counted self.old.faults) }
         ensures failed { OnErr result (Rose (counted self.old.faults) (counted self.new.faults)) }
 
         ensures listed { IsErr result ↔ (Contains self.old.fails (u64_saturate (self.old.calls + 1)) ⊎ ((0 < length piece.now) × (self.old.room ≤ length self.old.bytes))) }

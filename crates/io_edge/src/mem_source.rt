@@ -1,4 +1,4 @@
-ghost use Rattle.std.specs.Prelude.{◌≡◌, ◌↔◌, ◌+◌, ◌≤◌, Contains, IsErr, Some, length, min, drop, IfOk, MatchResult, OnErr};
+ghost use Rattle.std.specs.Prelude.{◌≡◌, ◌↔◌, ◌+◌, ◌≤◌, Contains, IsErr, Some, length, min, drop, IfOk, MatchResult, OnOk, OnErr};
 ghost use Rattle.std.specs.Io.Iter.{u64_saturate};
 ghost use Rattle.storage_model.specs.Count.{Later, RaisedByOne, Rose};
 ghost use Rattle.io_edge.specs.Counter.{counted};
@@ -56,6 +56,7 @@ impl Source for MemSource {
         ensures within { IfOk result (λ n. n ≤ length buf.old) }
         ensures moved { Fills (Some self.old.left) buf.new result (Some self.new.left) }
         ensures faults { Later (counted self.old.faults) (counted self.new.faults) }
+        ensures calm { OnOk result (counted self.new.faults ≡ counted self.old.faults) }
         ensures failed { OnErr result (Rose (counted self.old.faults) (counted self.new.faults)) }
 
         ensures listed { IsErr result ↔ Contains self.old.fails (u64_saturate (self.old.calls + 1)) }

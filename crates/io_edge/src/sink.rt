@@ -1,4 +1,4 @@
-ghost use Rattle.std.specs.Prelude.{◌<◌, ◌≤◌, List, [], ◌++◌, ℕ, length, IfOk, OnErr};
+ghost use Rattle.std.specs.Prelude.{◌≡◌, ◌<◌, ◌≤◌, List, [], ◌++◌, ℕ, length, IfOk, OnOk, OnErr};
 ghost use Rattle.storage_model.specs.Count.{Count, Later, Rose};
 ghost use Rattle.io_edge.specs.Sink.{Puts};
 
@@ -18,6 +18,7 @@ pub trait Sink {
         ensures progress { IfOk result (λ n. 0 < length piece.now → 0 < n) }
         ensures taken { Puts took self.old piece.now result self.new }
         ensures faults { Later (faults self.old) (faults self.new) }
+        ensures calm { OnOk result (faults self.new ≡ faults self.old) }
         ensures failed { OnErr result (Rose (faults self.old) (faults self.new)) };
 
     /// Nothing happened, and nothing was taken.

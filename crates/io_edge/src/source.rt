@@ -1,4 +1,4 @@
-ghost use Rattle.std.specs.Prelude.{◌≤◌, List, ℕ, length, Option, IfOk, OnErr};
+ghost use Rattle.std.specs.Prelude.{◌≡◌, ◌≤◌, List, ℕ, length, Option, IfOk, OnOk, OnErr};
 ghost use Rattle.storage_model.specs.Count.{Count, Later, Rose};
 ghost use Rattle.io_edge.specs.Source.{Fills};
 
@@ -17,5 +17,6 @@ pub trait Source {
         ensures within { IfOk result (λ n. n ≤ length buf.old) }
         ensures moved { Fills (left self.old) buf.new result (left self.new) }
         ensures faults { Later (faults self.old) (faults self.new) }
+        ensures calm { OnOk result (faults self.new ≡ faults self.old) }
         ensures failed { OnErr result (Rose (faults self.old) (faults self.new)) };
 }

@@ -1,4 +1,4 @@
-ghost use Rattle.std.specs.Prelude.{◌≡◌, ◌<◌, ◌≤◌, IsErr, List, None, length, ℕ, IfOk, MatchResult, OnErr};
+ghost use Rattle.std.specs.Prelude.{◌≡◌, ◌<◌, ◌≤◌, IsErr, List, None, length, ℕ, IfOk, MatchResult, OnOk, OnErr};
 ghost use Rattle.storage_model.specs.Count.{Later, RaisedByOne, Rose};
 ghost use Rattle.io_edge.specs.Counter.{counted};
 ghost use Rattle.io_edge.specs.Sink.{Puts};
@@ -41,6 +41,7 @@ impl<R: Read> Source for StdSource<R> {
     fn fill(&mut self, buf: &mut [u8]) -> Result<usize, Failed>
         ensures within { IfOk result (λ n. n ≤ length buf.old) }
         ensures faults { Later (counted self.old) (counted self.new) }
+        ensures calm { OnOk result (counted self.new ≡ counted self.old) }
         ensures failed { OnErr result (Rose (counted self.old) (counted self.new)) }
         ensures raised { MatchResult result (λ _. self.new ≡ self.old) (λ _. RaisedByOne (counted self.old) (counted self.new)) }
     {
@@ -85,6 +86,7 @@ impl<W: Write> Sink for StdSink<W> {
         ensures within { IfOk result (λ n. n ≤ length piece.now) }
         ensures progress { IfOk result (λ n. 0 < length piece.now → 0 < n) }
         ensures faults { Later (counted self.old) (counted self.new) }
+        ensures calm { OnOk result (counted self.new ≡ counted self.old) }
         ensures failed { OnErr result (Rose (counted self.old) (counted self.new)) }
         ensures raised { MatchResult result (λ _. self.new ≡ self.old) (λ _. RaisedByOne (counted self.old) (counted self.new)) }
     {

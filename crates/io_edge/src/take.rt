@@ -41,6 +41,8 @@ pub fn take_all<S: Source>(alloc: Global, source: &mut S, limit: u32) -> Result<
     ensures within { IfOk result (λ bytes. length bytes ≤ limit + 1) }
     ensures err { OnErr result (LosesFront (S.left source.old) (S.left source.new)) }
     ensures faults { Later (S.faults source.old) (S.faults source.new) }
+    ensures calm { OnOk result (S.faults source.new ≡ S.faults source.old) }
+    ensures unread { result ≡ Err TakeEnd.NoMemory → S.faults source.new ≡ S.faults source.old }
     ensures failed { result ≡ Err TakeEnd.Failed → Rose (S.faults source.old) (S.faults source.new) }
 {
     let most = limit as usize + 1;
@@ -67,6 +69,8 @@ fn take_piece<S: Source>(
     ensures end { IfOk result (λ n. 0 < length piece.old → n ≡ 0 → IfSome (S.left source.new) (λ left. left ≡ [])) }
     ensures joined { joined taken.new.items (S.left source.new) ≡ joined taken.old.items (S.left source.old) }
     ensures faults { Later (S.faults source.old) (S.faults source.new) }
+    ensures calm { OnOk result (S.faults source.new ≡ S.faults source.old) }
+    ensures unread { result ≡ Err TakeEnd.NoMemory → S.faults source.new ≡ S.faults source.old }
     ensures failed { result ≡ Err TakeEnd.Failed → Rose (S.faults source.old) (S.faults source.new) }
 {
     taken.reserve(piece.len())?;

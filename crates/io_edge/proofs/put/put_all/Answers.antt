@@ -16,5 +16,5 @@ loop-done-preserved g c = record {
   taken = took-more (record { join = g.met.K.Sink.took_both }) c.loop-done.done c.in_ok-done.field-0 c.args.piece.now c.args.out.now c.loop-done.out c.put.new.self
       c.loop-done.invariant.taken (rw (take_rest c.args.piece.now c.loop-done.done) at c.in_ok-done.ensures.taken);
   empty = λ none. absurd (omega (arith, c.in_ok-done.ensures.progress));
-  faults = search rules;
+  calm = search rules;
 }
