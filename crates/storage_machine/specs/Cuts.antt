@@ -13,7 +13,7 @@ use Rattle.storage_model.specs.declared.marks.Mark.TheVariants.{Put as PutMark, 
 
 -- commands sent before the next event, that of a phase under way among them
 abbrev pub sent_so_far : State → ℕ
-sent_so_far s = if s.busy then s.n + 1 else s.n
+sent_so_far s = if s.busy then next_number s else s.n
 
 -- the first `cut` line that isn't used and whose number has come
 unfoldable pub due_line : State → Option ℕ

@@ -7,7 +7,7 @@ use Rattle.storage_machine.specs.Slots.{asks, has, no_tasks, slot_at, tag_of}
 use Rattle.storage_machine.specs.declared.slots.Question.TheVariants.{Done, Issued, Vacant}
 use Rattle.storage_machine.specs.declared.state.State.{State}
 use Rattle.storage_machine.specs.declared.state.Stop.{Stop}
-use Rattle.storage_machine.specs.declared.state.Stop.TheVariants.{Bus, Flash, Range}
+use Rattle.storage_machine.specs.declared.state.Stop.TheVariants.{Bus, Flash, Range, Align}
 use Rattle.storage_machine.specs.declared.state.Recovery.{Recovery}
 use Rattle.storage_machine.specs.declared.state.Recovery.TheVariants.{Calm, Halted, Cleared, Discarded, Cleaned, Resumed}
 use Rattle.storage_model.specs.declared.plan.Job.{Job}
@@ -74,7 +74,7 @@ recovery_steps_at s recovery = record s { recovery = Calm; slots = no_tasks }
 unfoldable pub recovery_steps : State → State
 recovery_steps s = recovery_steps_at s s.recovery
 
--- the answer that a stop gives to the request that it names: the fourth bus fault, a flash fault, a task past the end
+-- the answer that a stop gives to the request that it names: the fourth bus fault, a flash fault, a task past the end or not of whole units
 abbrev pub named_times : State → ℕ → ℕ
 named_times s id = slice_index_or s.named (id - 1) 0
 
@@ -82,6 +82,7 @@ abbrev pub is_fault_of : State → Stop → Bool
 is_fault_of s (Bus (Some id)) = named_times s id == 4
 is_fault_of s (Flash id) = true
 is_fault_of s (Range id) = true
+is_fault_of s (Align id) = true
 is_fault_of s stop = false
 
 -- the engine has stopped, and no answer is to be given before the recovery

@@ -9,23 +9,19 @@ use crate::slots::{Question, asks, id_of};
 use crate::{Slot, State};
 use storage_model::{Block, Mark};
 
-fn sent_so_far(s: &State) -> u64
+fn sent_so_far(s: &State) -> u32
     ensures { result ≡ sent_so_far s.now }
 {
-    if s.busy {
-        u64::from(s.n) + 1
-    } else {
-        u64::from(s.n)
-    }
+    if s.busy { next_number(s) } else { s.n }
 }
 
-fn first_unused(lines: &[u32], used: &[bool], sent: u64) -> Option<usize>
+fn first_unused(lines: &[u32], used: &[bool], sent: u32) -> Option<usize>
     ensures { result ≡ position (λ line. not line.1 && nat_le line.0 sent) (zip lines.now used.now) }
 {
     lines
         .iter()
         .zip(used.iter())
-        .position(|line| !*line.1 && u64::from(*line.0) <= sent)
+        .position(|line| !*line.1 && *line.0 <= sent)
 }
 
 /// The first `cut` line that isn't used and whose number has come.

@@ -187,7 +187,7 @@ pub fn is_fault_of(s: &State, stop: &Stop) -> bool
 {
     match stop {
         Stop::Bus(Some(id)) => named_times(s, *id) == 4,
-        Stop::Flash(_) | Stop::Range(_) => true,
+        Stop::Flash(_) | Stop::Range(_) | Stop::Align(_) => true,
         Stop::Bus(None) | Stop::Running => false,
     }
 }

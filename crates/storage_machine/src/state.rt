@@ -28,13 +28,15 @@ pub type FlagList = Sequence<bool>;
 
 pub type EpochList = Sequence<usize>;
 
-/// Why the engine stands still: a bus fault, with the request that it named, a flash fault, or a task past the end.
+/// Why the engine stands still: a bus fault, with the request that it named, a flash fault, a task past the end, or one that
+/// is not of whole units.
 #[derive(Clone, Copy)]
 pub enum Stop {
     Running,
     Bus(Option<u32>),
     Flash(u32),
     Range(u32),
+    Align(u32),
 }
 
 /// How far a recovery has come: the engine is halted, its tasks are cleared, the card's queue is discarded (CMD48), the

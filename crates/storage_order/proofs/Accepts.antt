@@ -1,7 +1,7 @@
 -- A line that is accepted or refused.
 use Rattle.std.proofs.Common.{◌≡◌, ◌∙◌, ℕ, Bool, true, false, Option, Some, None, cond, refl, ap, sym}
 use Rattle.storage_machine.specs.Cuts.{least}
-use Rattle.trace_rules.specs.Lines.{holds, line_rule, owing, rule_of}
+use Rattle.trace_rules.specs.Lines.{holds, line_rule, owing_past, rule_of}
 use Rattle.trace_rules.specs.Steps.{earlier, event_rule, lower}
 use Rattle.storage_machine.specs.declared.state.State.{State}
 use Rattle.storage_model.specs.declared.trace.Item.{Item}
@@ -33,4 +33,4 @@ holds_where false rest owed rule e = sym (some_least owed rule e)
 
 pub holds_unbroken : (t : State) (item : Item) (rest : Option ℕ) → earlier (line_rule t item) rest ≡ None → holds t item ≡ true
 unfolding line_rule
-holds_unbroken t item rest e = holds_where (holds t item) _ (owing t.owed) (rule_of item) (none_first (line_rule t item) rest e)
+holds_unbroken t item rest e = holds_where (holds t item) _ (owing_past t item) (rule_of item) (none_first (line_rule t item) rest e)

@@ -12,7 +12,7 @@ use Rattle.storage_machine.specs.declared.state.Recovery.TheVariants.{Calm, Halt
 use Rattle.storage_machine.specs.declared.state.State.{State}
 use Rattle.storage_model.specs.declared.faults.Letter.TheVariants.{Host, Engine, Card, Cut}
 use Rattle.storage_model.specs.declared.trace.Item.{Item}
-use Rattle.storage_order.specs.Order.{engine_first, forced, settled, untold_steps, with_due}
+use Rattle.storage_order.specs.Order.{engine_first, forced, settled, left_behind, untold_steps, with_due}
 use Rattle.storage_order.specs.Silent.{with_silent}
 use Rattle.storage_order.specs.declared.order.Silent.{Silent}
 
@@ -69,6 +69,9 @@ forced_silent : (s : State) (item : Item) (silent : Silent) → with_silent (for
 unfolding forced
 forced_silent s item silent = due_silent (untold_steps s item) item silent ∙ untold_silent s item silent
 
+behind_silent : (s : State) (item : Item) (silent : Silent) → with_silent (left_behind s item) silent ≡ with_silent s silent
+behind_silent s item silent = either _ _ _ s silent refl refl
+
 pub settled_silent : (s : State) (item : Item) (silent : Silent) → with_silent (settled s item) silent ≡ with_silent s silent
 unfolding settled
-settled_silent s item silent = either _ _ _ s silent (forced_silent (ended s) item silent ∙ ended_silent s silent) refl
+settled_silent s item silent = either _ _ _ s silent (forced_silent (left_behind (ended s) item) item silent ∙ (behind_silent (ended s) item silent ∙ ended_silent s silent)) refl

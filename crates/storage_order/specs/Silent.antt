@@ -12,4 +12,5 @@ with_silent s silent = record s {
   notice = silent.notice;
   count = silent.count;
   event = silent.event;
+  owed = silent.owed;
 }

@@ -5,7 +5,7 @@ ghost use Rattle.storage_machine.specs.declared.commands.DueCommand.TheVariants.
 ghost use Rattle.storage_order.specs.Events.{end_rule, ended, ended_by, engine_may_pass, engine_step, may_pass, passed, rule_of_end};
 
 use storage_machine::commands::{DueCommand, due, hit, is_gone, is_idle, job_on};
-use storage_machine::host::has_work;
+use storage_machine::host::to_do;
 use storage_machine::jobs::phase_blocks;
 use storage_machine::{Event, State};
 use storage_model::Letter;
@@ -78,8 +78,8 @@ pub fn end_rule(s: &State) -> Option<u8>
     match s.event {
         Event::Untold | Event::Told(Letter::Card) => None,
         Event::Due => Some(15),
-        Event::Told(Letter::Cut) => Some(12),
-        Event::Told(Letter::Host) => unless(!has_work(s), 13),
+        Event::Told(Letter::Cut) => unless(!to_do(s), 12),
+        Event::Told(Letter::Host) => Some(13),
         Event::Told(Letter::Engine) => unless(engine_may_pass(s), 14),
     }
 }

@@ -8,6 +8,3 @@ mod start;
 
 pub use accept::{MState, Refuse, accept_item, accept_items};
 pub use order::Silent;
-
-#[cfg(test)]
-mod tests;

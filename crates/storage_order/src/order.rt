@@ -2,16 +2,17 @@
 ghost use Rattle.std.specs.Prelude.{◌≡◌, ◌&&◌, ◌||◌, not};
 ghost use Rattle.storage_machine.specs.Commands.{is_calm};
 ghost use Rattle.storage_machine.specs.Cuts.{is_due};
-ghost use Rattle.storage_order.specs.Events.{end_rule, ended};
+ghost use Rattle.storage_machine.specs.Host.{has_work};
+ghost use Rattle.storage_order.specs.Events.{closed, end_rule, ended};
 ghost use Rattle.trace_rules.specs.Steps.{is_cut, lower};
-ghost use Rattle.storage_order.specs.Order.{engine_first, forced, is_alone, is_cut_phase, is_engine, is_next, is_of_cut, is_told, letters_left, needs_step, next_actor, order_rule, settled, start_rule, starts, starts_at, untold_steps, with_due};
+ghost use Rattle.storage_order.specs.Order.{engine_first, entered, forced, is_alone, is_cut_phase, is_next, is_of_cut, is_of_next, is_phase, is_told, left_behind, letters_left, needs_step, next_actor, order_rule, settled, start_rule, starts, starts_at, untold_steps, with_due};
 ghost use Rattle.storage_order.specs.Silent.{with_silent};
 
 use crate::events::{end, end_rule, engine_step};
 use storage_machine::commands::{is_calm, is_idle};
 use storage_machine::cuts::is_due;
 use storage_machine::host::{has_work, recovery_steps, to_do};
-use storage_machine::{Event, Recovery, Slot, State};
+use storage_machine::{Event, Owed, Recovery, Slot, State};
 use storage_model::{Item, Letter};
 use trace_rules::lines::is_free;
 use trace_rules::steps::{is_cut, is_cut_by, is_due_event, is_line_of, is_nothing, lower, unless};
@@ -26,6 +27,7 @@ pub struct Silent {
     pub notice: bool,
     pub count: u8,
     pub event: Event,
+    pub owed: Owed,
 }
 
 pub fn silent_of(s: &State) -> Silent
@@ -39,6 +41,7 @@ pub fn silent_of(s: &State) -> Silent
         notice: s.notice,
         count: s.count,
         event: s.event,
+        owed: s.owed,
     }
 }
 
@@ -52,6 +55,7 @@ pub fn restore(s: &mut State, silent: &Silent)
     s.notice = silent.notice;
     s.count = silent.count;
     s.event = silent.event;
+    s.owed = silent.owed;
 }
 
 fn letters_left(s: &State) -> bool
@@ -64,15 +68,34 @@ fn is_cut_phase(s: &State, item: &Item) -> bool
     ensures { result ≡ is_cut_phase s.now item.now }
 {
     match item {
-        Item::Phase { id, .. } => is_cut_by(s, *id),
+        Item::Phase { .. } => is_cut_by(s),
         _ => false,
     }
 }
 
-fn is_engine(letter: Letter) -> bool
-    ensures { result ≡ is_engine letter }
+fn is_phase(item: &Item) -> bool
+    ensures { result ≡ is_phase item.now }
 {
-    matches!(letter, Letter::Engine)
+    matches!(item, Item::Phase { .. })
+}
+
+fn is_forced(s: &State) -> bool
+    ensures { result ≡ not (letters_left s.now || has_work s.now) }
+{
+    if letters_left(s) {
+        return false;
+    }
+    !has_work(s)
+}
+
+fn is_of_next(s: &State, letter: Letter, item: &Item) -> bool
+    ensures { result ≡ is_of_next s.now letter item.now }
+{
+    match letter {
+        Letter::Engine => is_cut_phase(s, item),
+        Letter::Card => is_phase(item) && is_forced(s),
+        Letter::Host | Letter::Cut => false,
+    }
 }
 
 fn is_told(s: &State, letter: Letter, item: &Item) -> bool
@@ -81,8 +104,7 @@ fn is_told(s: &State, letter: Letter, item: &Item) -> bool
     if !is_nothing(&s.owed) {
         return true;
     }
-    let cut = is_engine(letter) && is_cut_phase(s, item);
-    is_line_of(letter, is_calm(&s.recovery), item) && !cut
+    is_line_of(letter, is_calm(&s.recovery), item) && !is_of_next(s, letter, item)
 }
 
 /// Whether a line begins a further event.
@@ -105,7 +127,7 @@ fn needs_step(s: &State, item: &Item) -> bool
 {
     match item {
         Item::Irq { .. } => is_idle(s),
-        Item::Phase { id, .. } => is_cut_by(s, *id) && !s.busy,
+        Item::Phase { .. } => is_cut_by(s) && !s.busy,
         _ => false,
     }
 }
@@ -133,12 +155,12 @@ fn note_due(s: &mut State, item: &Item)
 }
 
 fn has_no_steps(s: &State, item: &Item) -> bool
-    ensures { result ≡ (letters_left s.now || (is_due s.now && is_cut item.now)) }
+    ensures { result ≡ (letters_left s.now || (is_due s.now && is_of_cut item.now)) }
 {
     if letters_left(s) {
         return true;
     }
-    is_due(s) && is_cut(item)
+    is_due(s) && is_of_cut(item)
 }
 
 fn take_untold(s: &mut State, item: &Item)
@@ -190,32 +212,41 @@ fn is_next(s: &State, item: &Item) -> bool
     !letters_left(s) && is_line_of(next_actor(s), is_calm(&s.recovery), item)
 }
 
-fn is_in_turn(due: bool, s: &State, item: &Item) -> bool
-    ensures { result ≡ (is_next s.now item.now || (due && not (letters_left s.now))) }
-{
-    if is_next(s, item) {
-        return true;
-    }
-    due && !letters_left(s)
-}
-
 fn start_rule(due: bool, s: &State, item: &Item) -> Option<u8>
     ensures { result ≡ start_rule due s.now item.now }
 {
     if is_due_event(s.event) {
         None
     } else {
-        lower(unless(is_in_turn(due, s, item), 12), unless(!due, 15))
+        lower(unless(is_next(s, item), 12), unless(!due, 15))
+    }
+}
+
+fn close(owed: Owed) -> Owed
+    ensures { result ≡ closed owed }
+{
+    match owed {
+        Owed::Closed => Owed::Nothing,
+        _ => owed,
+    }
+}
+
+fn leave_behind(s: &mut State, item: &Item)
+    ensures { s.new ≡ left_behind s.old item.now }
+{
+    if !is_cut(item) {
+        s.owed = close(s.owed);
     }
 }
 
 fn begin_event(s: &mut State, item: &Item) -> Option<u8>
-    ensures state { s.new ≡ forced (ended s.old) item.now }
-    ensures rule { result ≡ lower (end_rule s.old) (start_rule (is_due (ended s.old)) (forced (ended s.old) item.now) item.now) }
+    ensures state { s.new ≡ entered s.old item.now }
+    ensures rule { result ≡ lower (end_rule s.old) (start_rule (is_due (ended s.old)) (entered s.old item.now) item.now) }
 {
     let told = end_rule(s);
     end(s);
     let due = is_due(s);
+    leave_behind(s, item);
     force(s, item);
     lower(told, start_rule(due, s, item))
 }

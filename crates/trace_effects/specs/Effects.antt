@@ -3,7 +3,7 @@ use Rattle.std.specs.Prelude.{ℕ, ◌+◌, ◌-◌, nat_lt, min, Bool, true, fa
 use Rattle.storage_machine.specs.Commands.{due, is_calm}
 use Rattle.trace_effects.specs.Cuts.{all_epochs, epochs_with, is_deferred, used}
 use Rattle.storage_machine.specs.Cuts.{due_line, is_due, next_left}
-use Rattle.storage_machine.specs.Host.{is_silent, recovery_step, to_do}
+use Rattle.storage_machine.specs.Host.{has_work, is_silent, recovery_step, to_do}
 use Rattle.storage_machine.specs.Jobs.{is_in_range, job_of}
 use Rattle.trace_rules.specs.Lines.{data_on, is_poll}
 use Rattle.trace_effects.specs.Phases.{after_keep, after_phase, with_kept}
@@ -38,9 +38,12 @@ use Rattle.storage_model.specs.declared.trace.Item.TheVariants.{Card, Issue, Par
 abbrev pub over : State → Owed → State
 over s owed = record s { owed = owed; event = Untold }
 
--- An event of an actor begins. A step of a recovery that prints nothing is taken at once, and a due `cut` line makes an event of power its own.
+-- An event of an actor begins. A step of a recovery that prints nothing is taken at once, a host without work does nothing, and a due `cut` line makes
+-- an event of power its own.
 abbrev pub begun_by : State → Letter → State
-begun_by s HostActs = if is_silent s.recovery then record (recovery_step s) { event = Untold } else record s { event = Told HostActs }
+begun_by s HostActs =
+    if is_silent s.recovery then record (recovery_step s) { event = Untold }
+    else record s { event = if has_work s then Told HostActs else Untold }
 begun_by s EngineActs = record s { event = Told EngineActs }
 begun_by s CardActs = record s { event = Told CardActs; staged = true }
 begun_by s PowerActs = record s { event = if is_due s then Due else Told PowerActs }
@@ -160,7 +163,7 @@ after_recover s = over (record s {
 unfoldable pub after_discard : State → ℕ → State
 after_discard s n = over (record s { n = n; recovery = Discarded }) Nothing
 
--- The power is lost: nothing is counted or under way, and a due line that forced the cut is used.
+-- The power is lost: nothing is counted, and a due line that forced the cut is used. The issued requests stay so up to their lines.
 abbrev pub line_used : State → Event → Option ℕ
 line_used s Due = due_line s
 line_used s event = None
@@ -169,7 +172,6 @@ abbrev pub first_cut : State → State
 first_cut s = over (record s {
   cuts = used s.cuts (line_used s s.event);
   worked = to_do s;
-  order = [];
   spent = 0;
   notice = false;
   count = 0;
@@ -196,7 +198,7 @@ after_lost s id = over (record s {
 
 -- the power is on; what is left of sectors with a put is owed
 abbrev pub powered : State → State
-powered s = record s { bars = 0; busy = false; stop = Running; recovery = Calm }
+powered s = record s { order = []; bars = 0; busy = false; stop = Running; recovery = Calm }
 
 abbrev pub left_from : State → Option ℕ → State
 left_from s None = over (with_kept (record s { pend = [] }) s.kept) Nothing

@@ -48,7 +48,7 @@ pub fn apply(s: &mut State, alloc: Global, item: &Item) -> Result<(), NoMemory>
         Item::Recover => after_recover(s, alloc),
         Item::Discard { n } => after_discard(s, *n),
         Item::Fault { id, .. } | Item::Refused { id, .. } => after_fault(s, *id),
-        Item::Cut => after_cut(s, alloc),
+        Item::Cut => after_cut(s),
         Item::Lost { id } => after_lost(s, alloc, *id),
         Item::On => return after_on(s, alloc),
         Item::Left { sector, value } => return after_left(s, alloc, *sector, value),

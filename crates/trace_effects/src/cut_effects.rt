@@ -37,13 +37,12 @@ fn line_used(s: &State) -> Option<usize>
     }
 }
 
-fn first_cut(s: &mut State, alloc: Global)
+fn first_cut(s: &mut State)
     ensures { s.new ≡ first_cut s.old }
 {
     let line = line_used(s);
     s.worked = to_do(s);
     use_line(&mut s.cuts, line);
-    s.order = Bytes::new(alloc);
     s.spent = 0;
     s.notice = false;
     s.count = 0;
@@ -57,7 +56,7 @@ fn cut_more(cuts: u8) -> u8
 }
 
 #[tactic(auto, unfolding(crate::specs::Effects::after_cut))]
-pub fn after_cut(s: &mut State, alloc: Global)
+pub fn after_cut(s: &mut State)
     ensures { s.new ≡ after_cut s.old }
 {
     match s.owed {
@@ -69,7 +68,7 @@ pub fn after_cut(s: &mut State, alloc: Global)
                 },
             );
         }
-        _ => first_cut(s, alloc),
+        _ => first_cut(s),
     }
 }
 
@@ -160,9 +159,10 @@ fn all_epochs(alloc: Global, pend: &[Mark]) -> Result<EpochList, NoMemory>
     Ok(epochs)
 }
 
-fn power(s: &mut State)
+fn power(s: &mut State, alloc: Global)
     ensures { s.new ≡ powered s.old }
 {
+    s.order = Bytes::new(alloc);
     s.bars = 0;
     s.busy = false;
     s.stop = Stop::Running;
@@ -173,7 +173,7 @@ fn power(s: &mut State)
 fn none_left(s: &mut State, alloc: Global)
     ensures { s.new ≡ left_from (powered s.old) None }
 {
-    power(s);
+    power(s, alloc);
     s.pend = MarkList::new(alloc);
     let kept = s.kept;
     with_kept(s, kept);
@@ -186,7 +186,7 @@ fn some_left(s: &mut State, alloc: Global) -> Result<(), NoMemory>
 {
     let epochs = all_epochs(alloc, s.pend.as_slice())?;
     let deferred = is_deferred(alloc, s)?;
-    power(s);
+    power(s, alloc);
     s.epochs = epochs;
     s.deferred = deferred;
     s.lefts = MarkList::new(alloc);

@@ -1,10 +1,11 @@
 // What the lines of letters, of the queue and of answers do to the state.
 ghost use Rattle.std.specs.Prelude.{◌≡◌, if◌then◌else◌, OnOk, OnErr};
 ghost use Rattle.storage_machine.specs.Cuts.{is_due};
+ghost use Rattle.storage_machine.specs.Host.{has_work};
 ghost use Rattle.storage_machine.specs.Slots.{tag_of};
-ghost use Rattle.storage_machine.specs.declared.state.Event.TheVariants.{Told, Due};
+ghost use Rattle.storage_machine.specs.declared.state.Event.TheVariants.{Untold, Told, Due};
 ghost use Rattle.storage_machine.specs.declared.state.Owed.TheVariants.{Sectors};
-ghost use Rattle.storage_model.specs.declared.faults.Letter.TheVariants.{Cut};
+ghost use Rattle.storage_model.specs.declared.faults.Letter.TheVariants.{Host, Cut};
 ghost use Rattle.storage_machine.specs.declared.slots.Question.TheVariants.{Collected};
 ghost use Rattle.trace_effects.specs.Effects.{over, begun_by, begun, letters_used, after_turn, after_issue, after_params, addressed, after_address, words_used, after_poll, uses_word, named_more, after_bus, flash_stop, after_flash, after_irq, answers_left, after_answer, sectors_from, after_read, shown_on, after_sector, after_fault, with_held, waiting_with, after_recover, after_discard};
 
@@ -12,7 +13,7 @@ use crate::lists::{place_of, put_in};
 use std::alloc::Global;
 use storage_machine::commands::{due, is_calm};
 use storage_machine::cuts::is_due;
-use storage_machine::host::{is_silent, recovery_step};
+use storage_machine::host::{has_work, is_silent, recovery_step};
 use storage_machine::jobs::{is_in_range, job_of};
 use storage_machine::slots::{Change, Question, change_slots, has, put_slot, tag_of};
 use storage_machine::{Event, FlagList, Owed, Recovery, Slot, Standing, State, Stop, Task};
@@ -38,6 +39,16 @@ fn power_event(s: &State) -> Event
     }
 }
 
+fn host_event(s: &State) -> Event
+    ensures { result ≡ (if has_work s.now then Told Host else Untold) }
+{
+    if has_work(s) {
+        Event::Told(Letter::Host)
+    } else {
+        Event::Untold
+    }
+}
+
 fn begin_by(s: &mut State, letter: Letter)
     ensures { s.new ≡ begun_by s.old letter }
 {
@@ -47,7 +58,7 @@ fn begin_by(s: &mut State, letter: Letter)
                 recovery_step(s);
                 s.event = Event::Untold;
             } else {
-                s.event = Event::Told(Letter::Host);
+                s.event = host_event(s);
             }
         }
         Letter::Engine => s.event = Event::Told(Letter::Engine),

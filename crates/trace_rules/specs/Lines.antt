@@ -19,7 +19,7 @@ use Rattle.storage_machine.specs.declared.state.Recovery.{Recovery}
 use Rattle.storage_machine.specs.declared.state.Recovery.TheVariants.{Halted, Cleared}
 use Rattle.storage_machine.specs.declared.state.State.{State}
 use Rattle.storage_machine.specs.declared.state.Stop.{Stop}
-use Rattle.storage_machine.specs.declared.state.Stop.TheVariants.{Bus as BusStop, Flash as FlashStop, Range}
+use Rattle.storage_machine.specs.declared.state.Stop.TheVariants.{Bus as BusStop, Flash as FlashStop, Range, Align}
 use Rattle.storage_model.specs.Left.{mix_at}
 use Rattle.storage_model.specs.declared.block.Block.{Block}
 use Rattle.storage_model.specs.declared.faults.BusKind.{BusKind}
@@ -28,8 +28,9 @@ use Rattle.storage_model.specs.declared.faults.Letter.TheVariants.{Host as HostA
 use Rattle.storage_model.specs.declared.trace.End.{End}
 use Rattle.storage_model.specs.declared.trace.End.TheVariants.{Good, Fault as FaultEnd, Dead, Image}
 use Rattle.storage_model.specs.declared.trace.Item.{Item}
-use Rattle.storage_model.specs.declared.trace.Limit.TheVariants.{Range as PastRange, Align}
 use Rattle.storage_model.specs.declared.trace.Item.TheVariants.{Card, Issue, Params, Address, Poll, Phase, Discard, Bus, Flash, Recover, Irq, Done, Read, Sector, Status, Fault, Refused, Cut, Lost, On, Left, Turn, Off}
+use Rattle.storage_model.specs.declared.trace.Limit.{Limit}
+use Rattle.storage_model.specs.declared.trace.Limit.TheVariants.{Range as ByRange, Align as ByAlign}
 use Rattle.storage_model.specs.declared.trace.Why.{Why}
 use Rattle.storage_model.specs.declared.trace.Why.TheVariants.{Bus as ByBus, Flash as ByFlash}
 
@@ -129,8 +130,13 @@ abbrev pub is_letter : Letter → Option Letter → Bool
 is_letter letter None = false
 is_letter letter (Some next) = same_letter letter next
 
+-- at the end nothing is owed, though nothing follows
+abbrev pub owes_nothing : Owed → Bool
+owes_nothing Ended = true
+owes_nothing owed = is_free owed
+
 unfoldable pub turn_holds : State → Letter → Bool
-turn_holds s letter = is_free s.owed && is_letter letter (slice_get s.faults.turns s.letters)
+turn_holds s letter = owes_nothing s.owed && is_letter letter (slice_get s.faults.turns s.letters)
 
 -- an issue is of the next request, on its tag
 abbrev pub is_pair : ℕ → ℕ → Option (ℕ × ℕ) → Bool
@@ -242,15 +248,16 @@ is_fault s id ByBus (BusStop (Some named)) = (id == named) && (named_times s nam
 is_fault s id ByFlash (FlashStop named) = id == named
 is_fault s id why stop = false
 
-abbrev pub is_refusal : ℕ → Stop → Bool
-is_refusal id (Range named) = id == named
-is_refusal id stop = false
+abbrev pub is_refusal : ℕ → Limit → Stop → Bool
+is_refusal id ByRange (Range named) = id == named
+is_refusal id ByAlign (Align named) = id == named
+is_refusal id why stop = false
 
 unfoldable pub fault_holds : State → ℕ → Why → Bool
 fault_holds s id why = is_stopped s && is_fault s id why s.stop
 
-unfoldable pub refused_holds : State → ℕ → Bool
-refused_holds s id = is_stopped s && is_refusal id s.stop
+unfoldable pub refused_holds : State → ℕ → Limit → Bool
+refused_holds s id why = is_stopped s && is_refusal id why s.stop
 
 abbrev pub is_recover_owed : Owed → Bool
 is_recover_owed RecoverOwed = true
@@ -274,6 +281,7 @@ may_cut s Nothing = true
 may_cut s Closed = true
 may_cut s (BusOwed n id kind) = true
 may_cut s (FlashOwed id) = true
+may_cut s Ended = true
 may_cut s (Dark cuts) = not (has IsIssued s.slots) && nat_lt cuts 8
 may_cut s owed = false
 
@@ -346,16 +354,23 @@ holds s (Status id word) = status_holds s id word
 holds s Recover = recover_holds s
 holds s (Discard n) = discard_holds s n
 holds s (Fault id why) = fault_holds s id why
-holds s (Refused id PastRange) = refused_holds s id
-holds s (Refused id Align) = false
+holds s (Refused id why) = refused_holds s id why
 holds s Cut = cut_holds s
 holds s (Lost id) = lost_holds s id
 holds s On = on_holds s
 holds s (Left sector value) = left_holds s sector value
 holds s (Off end) = off_holds s end
 
+-- an end line is one of those that come in place of `on`, so there it breaks no rule but its own
+abbrev pub is_off : Item → Bool
+is_off (Off end) = true
+is_off item = false
+
+abbrev pub owing_past : State → Item → Option ℕ
+owing_past s item = if is_off item && may_be_on s s.owed then None else owing s.owed
+
 -- the lowest rule of 1 to 11 that the line breaks: its own, or that of a line that owes another
 unfoldable pub line_rule : State → Item → Option ℕ
 line_rule s item =
     if holds s item then (if is_for s.owed item then None else owing s.owed)
-    else least (owing s.owed) (rule_of item)
+    else least (owing_past s item) (rule_of item)

@@ -1,11 +1,11 @@
 -- A line within its event. The rules here are 12, whose lines an event has; 13, what the host does first; 15, a due cut; 16, what stays in
 -- the cache.
 use Rattle.std.specs.Prelude.{ℕ, ◌==◌, ◌&&◌, ◌||◌, min, Bool, true, false, not, if◌then◌else◌, Option, Some, None, slice_get}
-use Rattle.storage_machine.specs.Commands.{is_calm}
+use Rattle.storage_machine.specs.Commands.{due, is_calm}
 use Rattle.storage_machine.specs.Cuts.{has_own_line, shows}
 use Rattle.storage_machine.specs.Host.{is_irq_due}
-use Rattle.storage_machine.specs.Jobs.{is_direct, job_of}
-use Rattle.trace_rules.specs.Lines.{line_rule}
+use Rattle.storage_machine.specs.declared.commands.DueCommand.{DueCommand}
+use Rattle.storage_machine.specs.declared.commands.DueCommand.TheVariants.{Execute}
 use Rattle.storage_machine.specs.declared.state.Event.{Event}
 use Rattle.storage_machine.specs.declared.state.Event.TheVariants.{Untold, Told, Due}
 use Rattle.storage_machine.specs.declared.state.Owed.{Owed}
@@ -102,11 +102,15 @@ abbrev pub is_due_event : Event → Bool
 is_due_event Due = true
 is_due_event event = false
 
-abbrev pub is_cut_by : State → ℕ → Bool
-is_cut_by s id = has_own_line s && not (is_direct (job_of s.plan.jobs id))
+abbrev pub is_execute : DueCommand → Bool
+is_execute (Execute tag) = true
+is_execute command = false
+
+abbrev pub is_cut_by : State → Bool
+is_cut_by s = has_own_line s && is_execute (due s)
 
 abbrev pub yields_to_cut : State → Item → Bool
-yields_to_cut s (Phase n id count kept) = if is_cut_by s id then is_due_event s.event && (count == 0) else true
+yields_to_cut s (Phase n id count kept) = if is_cut_by s then is_due_event s.event && (count == 0) else true
 yields_to_cut s item = true
 
 -- where nothing of the cache was staged, a sector is left as it was
@@ -119,7 +123,3 @@ unfoldable pub event_rule : State → Item → Option ℕ
 event_rule s item =
     lower (unless (stands_in s s.event item) (rule_of_event s.event))
     (earlier (unless (is_first_work s item) 13) (earlier (unless (yields_to_cut s item) 15) (unless (is_left_so s item) 16)))
-
--- the lowest rule that a line breaks within its event
-unfoldable pub broken : State → Item → Option ℕ
-broken s item = earlier (line_rule s item) (event_rule s item)

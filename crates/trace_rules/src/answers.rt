@@ -12,7 +12,7 @@ use storage_machine::host::{is_fault_of, is_stopped, named_times};
 use storage_machine::jobs::{is_read, is_status, job_of};
 use storage_machine::slots::{Question, tag_of};
 use storage_machine::{Owed, Recovery, State, Stop};
-use storage_model::{Block, Why};
+use storage_model::{Block, Limit, Why};
 
 fn is_answers(owed: &Owed) -> bool
     ensures { result ≡ is_answers owed.now }
@@ -99,12 +99,18 @@ fn is_fault(s: &State, id: u32, why: Why, stop: &Stop) -> bool
     }
 }
 
-fn is_refusal(id: u32, stop: &Stop) -> bool
-    ensures { result ≡ is_refusal id stop.now }
+fn is_refusal(id: u32, why: Limit, stop: &Stop) -> bool
+    ensures { result ≡ is_refusal id why stop.now }
 {
-    match stop {
-        Stop::Range(named) => id == *named,
-        _ => false,
+    match why {
+        Limit::Range => match stop {
+            Stop::Range(named) => id == *named,
+            _ => false,
+        },
+        Limit::Align => match stop {
+            Stop::Align(named) => id == *named,
+            _ => false,
+        },
     }
 }
 
@@ -116,10 +122,10 @@ pub fn fault_holds(s: &State, id: u32, why: Why) -> bool
 }
 
 #[tactic(auto, unfolding(crate::specs::Lines::refused_holds))]
-pub fn refused_holds(s: &State, id: u32) -> bool
-    ensures { result ≡ refused_holds s.now id }
+pub fn refused_holds(s: &State, id: u32, why: Limit) -> bool
+    ensures { result ≡ refused_holds s.now id why }
 {
-    is_stopped(s) && is_refusal(id, &s.stop)
+    is_stopped(s) && is_refusal(id, why, &s.stop)
 }
 
 fn is_recover_owed(owed: &Owed) -> bool

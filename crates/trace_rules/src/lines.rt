@@ -1,6 +1,6 @@
 // Each line of a trace: the rule that it is under, and when it may stand.
 ghost use Rattle.std.specs.Prelude.{◌≡◌, slice_get};
-ghost use Rattle.trace_rules.specs.Lines.{rule_of, owing, is_free, is_for, is_number, same_lines, is_card_owed, card_holds, same_letter, is_letter, turn_holds, is_pair, is_params, is_address, is_poll, is_heard, params_holds, address_holds, poll_holds, is_target, is_missed, is_missed_now, bus_by_owed, bus_holds, is_card_event, flash_by_owed, flash_holds, irq_holds};
+ghost use Rattle.trace_rules.specs.Lines.{rule_of, owing, is_free, is_for, is_number, same_lines, is_card_owed, card_holds, same_letter, is_letter, owes_nothing, turn_holds, is_pair, is_params, is_address, is_poll, is_heard, params_holds, address_holds, poll_holds, is_target, is_missed, is_missed_now, bus_by_owed, bus_holds, is_card_event, flash_by_owed, flash_holds, irq_holds};
 
 use storage_machine::commands::{
     DueCommand, due, hit, id_on, is_gone, is_kind, is_lost, next_number, polled_mask,
@@ -134,11 +134,20 @@ fn is_letter_at(letters: &[Letter], place: usize, letter: Letter) -> bool
     }
 }
 
+fn owes_nothing(owed: &Owed) -> bool
+    ensures { result ≡ owes_nothing owed.now }
+{
+    match owed {
+        Owed::End => true,
+        _ => is_free(owed),
+    }
+}
+
 #[tactic(auto, unfolding(crate::specs::Lines::turn_holds))]
 pub fn turn_holds(s: &State, letter: Letter) -> bool
     ensures { result ≡ turn_holds s.now letter }
 {
-    is_free(&s.owed) && is_letter_at(s.faults.turns.as_slice(), s.letters, letter)
+    owes_nothing(&s.owed) && is_letter_at(s.faults.turns.as_slice(), s.letters, letter)
 }
 
 pub fn is_pair(id: u32, tag: u8, pair: Option<(usize, usize)>) -> bool

@@ -14,7 +14,7 @@ fn may_cut(s: &State, owed: &Owed) -> bool
     ensures { result ≡ may_cut s.now owed.now }
 {
     match owed {
-        Owed::Nothing | Owed::Closed | Owed::Bus { .. } | Owed::Flash { .. } => true,
+        Owed::Nothing | Owed::Closed | Owed::Bus { .. } | Owed::Flash { .. } | Owed::End => true,
         Owed::Dark { cuts } => !has(Question::Issued, &s.slots) && *cuts < 8,
         _ => false,
     }
@@ -43,7 +43,8 @@ pub fn lost_holds(s: &State, id: u32) -> bool
     lost_by_owed(s, id, &s.owed)
 }
 
-fn may_be_on(s: &State, owed: &Owed) -> bool
+/// Whether the power may be on again.
+pub fn may_be_on(s: &State, owed: &Owed) -> bool
     ensures { result ≡ may_be_on s.now owed.now }
 {
     match owed {

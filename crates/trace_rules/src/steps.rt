@@ -2,8 +2,8 @@
 ghost use Rattle.std.specs.Prelude.{◌≡◌, ◌||◌, not};
 ghost use Rattle.storage_machine.specs.Commands.{is_calm};
 ghost use Rattle.storage_machine.specs.Cuts.{least};
-ghost use Rattle.trace_rules.specs.Lines.{holds, line_rule};
-ghost use Rattle.trace_rules.specs.Steps.{broken, earlier, event_rule, is_cleared, is_cut, is_cut_by, is_due_event, is_first_work, is_left_so, is_line_of, is_nothing, is_under_way, lower, rule_of_event, stands_in, stands_of_power, unless, yields_to_cut};
+ghost use Rattle.trace_rules.specs.Lines.{holds, is_off, line_rule, owing_past};
+ghost use Rattle.trace_rules.specs.Steps.{earlier, event_rule, is_cleared, is_cut, is_cut_by, is_due_event, is_execute, is_first_work, is_left_so, is_line_of, is_nothing, is_under_way, lower, rule_of_event, stands_in, stands_of_power, unless, yields_to_cut};
 
 use crate::answers::{
     discard_holds, done_holds, fault_holds, read_holds, recover_holds, refused_holds, sector_holds,
@@ -14,13 +14,12 @@ use crate::lines::{
     params_holds, poll_holds, rule_of, turn_holds,
 };
 use crate::phases::phase_holds;
-use crate::power::{cut_holds, left_holds, lost_holds, off_holds, on_holds};
-use storage_machine::commands::is_calm;
+use crate::power::{cut_holds, left_holds, lost_holds, may_be_on, off_holds, on_holds};
+use storage_machine::commands::{DueCommand, due, is_calm};
 use storage_machine::cuts::{has_own_line, shows};
 use storage_machine::host::{is_irq_due, next_issue};
-use storage_machine::jobs::{is_direct, job_of};
 use storage_machine::{Event, Owed, Recovery, State};
-use storage_model::{Item, Letter, Limit};
+use storage_model::{Item, Letter};
 
 /// Whether a line's own rule holds.
 #[tactic(auto, unfolding(crate::specs::Lines::holds))]
@@ -49,13 +48,7 @@ pub fn holds(s: &State, item: &Item) -> bool
         Item::Recover => recover_holds(s),
         Item::Discard { n } => discard_holds(s, *n),
         Item::Fault { id, why } => fault_holds(s, *id, *why),
-        Item::Refused {
-            id,
-            why: Limit::Range,
-        } => refused_holds(s, *id),
-        Item::Refused {
-            why: Limit::Align, ..
-        } => false,
+        Item::Refused { id, why } => refused_holds(s, *id, *why),
         Item::Cut => cut_holds(s),
         Item::Lost { id } => lost_holds(s, *id),
         Item::On => on_holds(s),
@@ -73,6 +66,22 @@ fn lower_rule(owed: Option<u8>, rule: u8) -> Option<u8>
     }
 }
 
+fn is_off(item: &Item) -> bool
+    ensures { result ≡ is_off item.now }
+{
+    matches!(item, Item::Off { .. })
+}
+
+fn owing_past(s: &State, item: &Item) -> Option<u8>
+    ensures { result ≡ owing_past s.now item.now }
+{
+    if is_off(item) && may_be_on(s, &s.owed) {
+        None
+    } else {
+        owing(&s.owed)
+    }
+}
+
 /// The lowest rule of 1 to 11 that a line breaks.
 #[tactic(auto, unfolding(crate::specs::Lines::line_rule))]
 pub fn line_rule(s: &State, item: &Item) -> Option<u8>
@@ -85,7 +94,7 @@ pub fn line_rule(s: &State, item: &Item) -> Option<u8>
             owing(&s.owed)
         }
     } else {
-        lower_rule(owing(&s.owed), rule_of(item))
+        lower_rule(owing_past(s, item), rule_of(item))
     }
 }
 
@@ -221,19 +230,25 @@ pub fn is_due_event(event: Event) -> bool
     matches!(event, Event::Due)
 }
 
-/// Whether the next phase, of this request, has a `cut` line of its own.
-pub fn is_cut_by(s: &State, id: u32) -> bool
-    ensures { result ≡ is_cut_by s.now id }
+fn is_execute(command: DueCommand) -> bool
+    ensures { result ≡ is_execute command }
 {
-    has_own_line(s) && !is_direct(&job_of(&s.plan.jobs, id))
+    matches!(command, DueCommand::Execute(_))
+}
+
+/// Whether the next command executes a task and has a `cut` line of its own.
+pub fn is_cut_by(s: &State) -> bool
+    ensures { result ≡ is_cut_by s.now }
+{
+    has_own_line(s) && is_execute(due(s))
 }
 
 fn yields_to_cut(s: &State, item: &Item) -> bool
     ensures { result ≡ yields_to_cut s.now item.now }
 {
     match item {
-        Item::Phase { id, count, .. } => {
-            if is_cut_by(s, *id) {
+        Item::Phase { count, .. } => {
+            if is_cut_by(s) {
                 is_due_event(s.event) && *count == 0
             } else {
                 true
@@ -276,15 +291,4 @@ pub fn event_rule(s: &State, item: &Item) -> Option<u8>
     let so = unless(is_left_so(s, item), 16);
     let yields = earlier(unless(yields_to_cut(s, item), 15), so);
     lower(stands, earlier(unless(is_first_work(s, item), 13), yields))
-}
-
-/// The lowest rule that a line breaks within its event.
-#[tactic(auto, unfolding(crate::specs::Steps::broken))]
-pub fn broken(s: &State, item: &Item) -> Option<u8>
-    ensures { result ≡ broken s.now item.now }
-{
-    match line_rule(s, item) {
-        None => event_rule(s, item),
-        Some(rule) => Some(rule),
-    }
 }
