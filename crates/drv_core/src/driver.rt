@@ -15,6 +15,7 @@ ghost use Rattle.drv_core.specs.SetUp.{set_up};
 ghost use Rattle.drv_core.specs.State.{asks_notice, at_start, is_recovering, layout_of, next_of, with_requests};
 ghost use Rattle.drv_core.specs.Judge.{judged};
 ghost use Rattle.drv_core.specs.Event.{IsWritten, WritesFor, acknowledged, requests_after, rung_for, step_of, told_of};
+ghost use Rattle.drv_core.specs.Work.{has_work, work_of};
 
 use crate::judge::judge;
 use crate::set_up::{LIST_BASE, set_up, upper_base};
@@ -67,21 +68,43 @@ impl Driver {
     /// `NoMemory` where the allocator has none.
     pub fn start(alloc: Global, plan: Plan) -> Result<Driver, NoMemory>
         requires { IsValidPlan plan }
-        ensures { IfOk result (λ driver. driver ≡ at_start plan) }
+        ensures start { IfOk result (λ driver. driver ≡ at_start plan) }
+        ensures sound { IfOk result (λ driver. IsSound driver.requests) }
     {
         let requests = Requests::start(alloc, plan)?;
-        Ok(Driver {
+        let driver = Driver {
             requests,
             recovery: Recovery::new(),
-        })
+        };
+        driver.stays_sound();
+        Ok(driver)
     }
 
     /// After a loss of power: each issued request is answered, all tags are free, and no recovery is under way.
     pub fn forget(&mut self)
-        ensures { self.new ≡ record { requests = forgotten self.old.requests; recovery = Calm } }
+        ensures after { self.new ≡ record { requests = forgotten self.old.requests; recovery = Calm } }
+        ensures sound { IsSound self.new.requests }
     {
         self.requests.forget();
         self.recovery = Recovery::new();
+        self.stays_sound();
+    }
+
+    /// What an event would do now: the first that applies.
+    pub fn work(&self, regs: &Regs) -> Work
+        ensures { result ≡ work_of self.now.recovery regs.now }
+    {
+        work_of(self.recovery.state(), regs)
+    }
+
+    /// Whether an event would do anything now.
+    pub fn has_work(&self, regs: &Regs) -> bool
+        ensures { result ≡ has_work self.now regs.now }
+    {
+        match self.work(regs) {
+            Work::Recover | Work::Collect | Work::Fail => true,
+            Work::Issue => self.requests.due().is_ok(),
+        }
     }
 
     /// The waiting request with the lowest number, where it may be issued. A stop of the engine or a recovery isn't looked at.
@@ -177,6 +200,7 @@ impl Driver {
         ensures event { Event L.made (record { driver = self.old; regs = regs.old; memory = mem.old; link = link.old }) (record { driver = self.new; regs = regs.new; memory = mem.new; link = link.new }) cause result }
         ensures uses { Uses L.keeps L.fits L.state link.old link.new (step_of result) }
         ensures plan { self.new.requests.plan ≡ self.old.requests.plan }
+        ensures sound { IsSound self.new.requests }
         ensures layout { HasLayout mem.new (layout_of self.new.requests.plan) }
         ensures at { IsAt self.old.recovery regs.old → IsAt self.new.recovery regs.new }
         ensures over { IsAt self.old.recovery regs.old → result ≡ Stepped Over → IsOver regs.new }
@@ -195,6 +219,7 @@ impl Driver {
         ensures event { RecoveryEvent L.made link.old link.new self.old.recovery self.new.recovery regs.old regs.new result }
         ensures uses { Uses L.keeps L.fits L.state link.old link.new result }
         ensures requests { self.new.requests ≡ requests_after result self.old.requests }
+        ensures sound { IsSound self.new.requests }
         ensures at { IsAt self.old.recovery regs.old → IsAt self.new.recovery regs.new }
         ensures over { IsAt self.old.recovery regs.old → result ≡ Over → IsOver regs.new }
     {
@@ -202,6 +227,7 @@ impl Driver {
         if let Step::Over = step {
             self.requests.give_back();
         }
+        self.stays_sound();
         step
     }
 
@@ -209,10 +235,12 @@ impl Driver {
     fn collect(&mut self, regs: &mut Regs) -> Act
         ensures act { result ≡ Collected regs.old.completed }
         ensures driver { self.new ≡ with_requests self.old (collected self.old.requests regs.old.completed) }
+        ensures sound { IsSound self.new.requests }
         ensures regs { regs.new ≡ acknowledged regs.old }
     {
         let mask = acknowledge(regs);
         self.requests.collect(mask);
+        self.stays_sound();
         Act::Collected { mask }
     }
 
@@ -224,11 +252,13 @@ impl Driver {
         ensures uses { Uses L.keeps L.fits L.state link.old link.new Moved }
         ensures act { result ≡ (judged self.old.requests cause).act }
         ensures driver { self.new ≡ record { requests = (judged self.old.requests cause).requests; recovery = Halted } }
+        ensures sound { IsSound self.new.requests }
         ensures regs { regs.new ≡ halted regs.old }
         ensures at { IsAt Halted regs.new }
     {
         let act = judge(&mut self.requests, cause);
         let _ = self.recovery.event(regs, link);
+        self.stays_sound();
         act
     }
 
@@ -237,6 +267,7 @@ impl Driver {
         requires layout { HasLayout mem.old (layout_of self.old.requests.plan) }
         ensures told { result ≡ told_of (due_of self.old.requests) }
         ensures driver { self.new ≡ with_requests self.old (issued_if self.old.requests (due_of self.old.requests)) }
+        ensures sound { IsSound self.new.requests }
         ensures regs { regs.new ≡ rung_for regs.old (due_of self.old.requests) }
         ensures written { WritesFor self.old.requests.plan mem.old mem.new (due_of self.old.requests) }
         ensures layout { HasLayout mem.new (layout_of self.new.requests.plan) }
@@ -245,13 +276,24 @@ impl Driver {
             Ok(due) => {
                 self.write_job(mem, due);
                 ring(regs, due.tag);
+                self.stays_sound();
                 Act::Issued {
                     id: due.id,
                     tag: due.tag,
                 }
             }
-            Err(_) => Act::Nothing,
+            Err(_) => {
+                self.stays_sound();
+                Act::Nothing
+            }
         }
+    }
+
+    // However the requests stand, each stands in one way only.
+    fn stays_sound(&self)
+        ensures { IsSound self.now.requests }
+    {
+        let _ = self.requests.plan();
     }
 
     // Writes the descriptors and the data of a request.
