@@ -3,3 +3,4 @@ mod StepLemmas
 mod OpeningLemmas
 mod CallLemmas
 pub mod Standing
+mod Looking

@@ -4,7 +4,7 @@ ghost use Rattle.image_form.specs.Form.{gate_number, gate_head, page_of};
 ghost use Rattle.image_form.specs.declared.gate.Gate.TheVariants.{Shut, Ajar};
 ghost use Rattle.image_form.specs.Image.{PageCall, Fetch, IsImage, Program, finishing, gate_at, opening};
 ghost use Rattle.intent_store.specs.declared.ends.StartEnd.TheVariants.{BadImage};
-ghost use Rattle.intent_store.specs.Calls.{IsCall, Makes, Opens};
+ghost use Rattle.intent_store.specs.Calls.{IsCall, Makes, MakesFor, Opens, looking, programming, reading, replacing};
 ghost use Rattle.intent_store.specs.Intent.{Known, IntentStands, IsNoImage, IsOldOrNew, ShowsImage, StartEnds, StoreEnds, IsRefusedOff, shown_by};
 ghost use Rattle.intent_store.specs.Steps.{GateIn, IsOpening, IsWritten, IsMoved, after_gate, place_of, intent_by, with_intent};
 
@@ -107,6 +107,7 @@ impl Intent {
         ensures same { A.state array.new ≡ record (A.state array.old) { faults = (A.state array.new).faults; fetches = (A.state array.new).fetches } }
         ensures ends { StoreEnds (A.state array.old) (A.state array.new) result }
         ensures off { IsRefusedOff (A.state array.old) (A.state array.new) result }
+        ensures calls { (A.state array.old).powered ≡ true → MakesFor self.old.gate (reading sector) (A.state array.old) (A.state array.new) (is_ok result) }
     {
         let page = page_of(self.look(array)?, sector);
         fetch(array, page, block)
@@ -128,6 +129,7 @@ impl Intent {
         ensures torn { OnErr result (IsTorn (shown_by (A.state array.old)) sector block.now (shown_by (A.state array.new))) }
         ensures ends { StoreEnds (A.state array.old) (A.state array.new) result }
         ensures off { IsRefusedOff (A.state array.old) (A.state array.new) result }
+        ensures calls { (A.state array.old).powered ≡ true → MakesFor self.old.gate (programming sector) (A.state array.old) (A.state array.new) (is_ok result) }
     {
         self.close(array)?;
         self.put(sector, block, array)
@@ -149,6 +151,7 @@ impl Intent {
         ensures either { IsOldOrNew (shown_by (A.state array.old)) sector block.now (shown_by (A.state array.new)) }
         ensures ends { StoreEnds (A.state array.old) (A.state array.new) result }
         ensures off { IsRefusedOff (A.state array.old) (A.state array.new) result }
+        ensures calls { (A.state array.old).powered ≡ true → MakesFor self.old.gate (replacing sector) (A.state array.old) (A.state array.new) (is_ok result) }
     {
         self.close(array)?;
         self.offer(sector, block, array)?;
@@ -166,6 +169,7 @@ impl Intent {
         ensures same { A.state array.new ≡ record (A.state array.old) { faults = (A.state array.new).faults; fetches = (A.state array.new).fetches } }
         ensures ends { StoreEnds (A.state array.old) (A.state array.new) result }
         ensures off { (A.state array.old).powered ≡ false → A.state array.new ≡ A.state array.old }
+        ensures looked { (A.state array.old).powered ≡ true → Makes (looking self.old.gate) (A.state array.old) (A.state array.new) (is_ok result) }
         ensures calls { IsSome self.old.gate → (IfOk result (λ gate. self.old.gate ≡ Some gate)) × (is_ok result ≡ true) × ((A.state array.new) ≡ (A.state array.old)) }
     {
         if let Some(gate) = self.gate {
@@ -204,6 +208,7 @@ impl Intent {
         ensures ends { StoreEnds (A.state array.old) (A.state array.new) result }
         ensures off { (A.state array.old).powered ≡ false → A.state array.new ≡ A.state array.old }
         ensures calls { (gate : Gate) → self.old.gate ≡ Some gate → (A.state array.old).powered ≡ true → Makes (finishing gate) (A.state array.old) (A.state array.new) (is_ok result) }
+        ensures finished { (A.state array.old).powered ≡ true → MakesFor self.old.gate finishing (A.state array.old) (A.state array.new) (is_ok result) }
     {
         match self.look(array)? {
             Gate::Shut => Ok(()),
@@ -299,6 +304,7 @@ impl Intent {
         ensures either { IsOldOrNew (shown_by (A.state array.old)) sector block.now (shown_by (A.state array.new)) }
         ensures ends { StoreEnds (A.state array.old) (A.state array.new) result }
         ensures off { IsRefusedOff (A.state array.old) (A.state array.new) result }
+        ensures calls { (A.state array.old).powered ≡ true → Makes (Program 2 ∷ Program 1 ∷ []) (A.state array.old) (A.state array.new) (is_ok result) }
     {
         self.keep(block, array)?;
         self.open(sector, array)
@@ -313,6 +319,7 @@ impl Intent {
         ensures shown { shown_by (A.state array.new) ≡ shown_by (A.state array.old) }
         ensures ends { StoreEnds (A.state array.old) (A.state array.new) result }
         ensures off { IsRefusedOff (A.state array.old) (A.state array.new) result }
+        ensures calls { (A.state array.old).powered ≡ true → IsCall (Program 2) (A.state array.old) (A.state array.new) result }
     {
         program(array, 2, block)
     }
@@ -330,6 +337,7 @@ impl Intent {
         ensures either { (shown_by (A.state array.new) ≡ shown_by (A.state array.old)) ⊎ (shown_by (A.state array.new) ≡ with_intent (A.state array.old).told sector) }
         ensures ends { StoreEnds (A.state array.old) (A.state array.new) result }
         ensures off { IsRefusedOff (A.state array.old) (A.state array.new) result }
+        ensures calls { (A.state array.old).powered ≡ true → IsCall (Program 1) (A.state array.old) (A.state array.new) result }
     {
         self.turn(Gate::Ajar(sector), array)
     }
@@ -344,6 +352,7 @@ impl Intent {
         ensures torn { IsTorn (shown_by (A.state array.old)) sector block.now (shown_by (A.state array.new)) }
         ensures ends { StoreEnds (A.state array.old) (A.state array.new) result }
         ensures off { IsRefusedOff (A.state array.old) (A.state array.new) result }
+        ensures calls { (A.state array.old).powered ≡ true → IsCall (Program (8 + sector)) (A.state array.old) (A.state array.new) result }
     {
         prove!(sector < self.sectors);
         program(array, 8 + sector, block)
