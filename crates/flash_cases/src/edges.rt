@@ -3,7 +3,7 @@ use io_edge::{
     put_all, take_all,
 };
 use std::io;
-use std::io::{Read, Write};
+use std::io::{BufWriter, Read, Write};
 use std::test::Fail;
 use storage_model::Bytes;
 
@@ -61,6 +61,23 @@ fn what_was_not_written_was_not_taken(rt: HostRuntime) -> Result<(), Fail> {
     let mut sink = StdSink::over(&mut writer);
     assert_eq!(rt; put_all(&mut sink, b"abc"), Ok(()));
     assert_eq!(rt; put_all(&mut sink, b"def"), Err(Failed));
+    assert_eq!(rt; writer.bytes.as_slice(), b"abcde".as_slice());
+    Ok(())
+}
+
+#[test]
+fn what_is_held_is_handed_on_at_the_end(rt: HostRuntime) -> Result<(), Fail> {
+    let mut writer = Narrow {
+        bytes: Vec::new(rt.alloc()),
+        room: 5,
+    };
+    let held = BufWriter::with_capacity(rt.alloc(), 65536, &mut writer)?;
+    let mut sink = StdSink::over(held);
+    assert_eq!(rt; put_all(&mut sink, b"abc"), Ok(()));
+    assert_eq!(rt; sink.finish(), Ok(()));
+    assert_eq!(rt; put_all(&mut sink, b"def"), Ok(()));
+    assert_eq!(rt; sink.finish(), Err(Failed));
+    drop(sink);
     assert_eq!(rt; writer.bytes.as_slice(), b"abcde".as_slice());
     Ok(())
 }

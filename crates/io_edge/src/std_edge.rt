@@ -52,8 +52,8 @@ impl<R: Read> Source for StdSource<R> {
     }
 }
 
-/// A writer of std as a sink. It tells no contents, and flushes nothing. Each error of the writer, an interrupted write
-/// too, is a fault, and so is a write that takes nothing of a piece that isn't empty.
+/// A writer of std as a sink. It tells no contents, and only `finish` flushes the writer. Each error of the writer, an
+/// interrupted write too, is a fault, and so is a write that takes nothing of a piece that isn't empty.
 #[derive(Drop)]
 pub struct StdSink<W> {
     writer: W,
@@ -74,6 +74,19 @@ impl<W> StdSink<W> {
         ensures { result ≡ 0 }
     {
         StdSink { writer, faults: 0 }
+    }
+}
+
+impl<W: Write> StdSink<W> {
+    /// Hands on what the writer still holds, as a buffered one does. What can't be written is a fault.
+    pub fn finish(&mut self) -> Result<(), Failed>
+        ensures calm { OnOk result (self.new ≡ self.old) }
+        ensures raised { OnErr result (RaisedByOne (counted self.old) (counted self.new)) }
+    {
+        match self.writer.flush() {
+            Ok(()) => Ok(()),
+            Err(_) => Err(fail(&mut self.faults)),
+        }
     }
 }
 
