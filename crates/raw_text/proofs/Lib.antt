@@ -1,4 +1,3 @@
-pub mod HexNumbers
 pub mod Meanings
 pub mod OpTexts
 pub mod OpWords

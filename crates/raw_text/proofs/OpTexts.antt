@@ -11,9 +11,9 @@ use Rattle.text_words.proofs.Lines.{IsFree, IsWord, first_part, free_words, line
 use Rattle.text_words.proofs.Spellings.{byte_word, decimal_word, digits_word}
 use Rattle.raw_text.specs.declared.op.RawOp.{RawOp}
 use Rattle.raw_text.specs.declared.op.RawOp.TheVariants.{Poke, Fill, Peek, Write, Read, Go, Show, Discard}
-use Rattle.raw_text.specs.HexNumber.{hex_number}
+use Rattle.text_words.specs.HexNumber.{hex_number}
 use Rattle.raw_text.specs.Raw.{IsOp, op_text, op_words}
-use Rattle.raw_text.proofs.HexNumbers.{number_word}
+use Rattle.text_words.proofs.HexNumbers.{number_word}
 use Rattle.raw_text.proofs.OpWords.{same_op}
 
 abbrev ArePlain : List (List ℕ) → Type 0

@@ -11,10 +11,10 @@ use Rattle.raw_text.specs.declared.keyword.Keyword.{Keyword}
 use Rattle.raw_text.specs.declared.keyword.Keyword.TheVariants.{Poke as PokeWord, Fill as FillWord, Peek as PeekWord, Write as WriteWord, Read as ReadWord, Go as GoWord, Show as ShowWord, Discard as DiscardWord}
 use Rattle.raw_text.specs.declared.op.RawOp.{RawOp}
 use Rattle.raw_text.specs.declared.op.RawOp.TheVariants.{Poke, Fill, Peek, Write, Read, Go, Show, Discard}
-use Rattle.raw_text.specs.HexNumber.{hex_number}
+use Rattle.text_words.specs.HexNumber.{hex_number}
 use Rattle.raw_text.specs.Names.{keyword_text}
 use Rattle.raw_text.specs.Raw.{ArePoked, IsOp, op_words}
-use Rattle.raw_text.proofs.HexNumbers.{hex_number-injective}
+use Rattle.text_words.proofs.HexNumbers.{hex_number-injective}
 
 -- the word that names an operation
 abbrev pub name_of : RawOp → Keyword

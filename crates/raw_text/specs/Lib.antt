@@ -1,4 +1,3 @@
-pub mod HexNumber
 pub mod Meaning
 pub mod Names
 pub mod Raw

@@ -4,7 +4,7 @@ use Rattle.hex.specs.Hex.{IsBytes, encode_lower}
 use Rattle.text_words.specs.Words.{line, hex_byte}
 use Rattle.raw_text.specs.declared.op.RawOp.{RawOp}
 use Rattle.raw_text.specs.declared.op.RawOp.TheVariants.{Poke, Fill, Peek, Write, Read, Go, Show, Discard}
-use Rattle.raw_text.specs.HexNumber.{hex_number}
+use Rattle.text_words.specs.HexNumber.{hex_number}
 
 -- the words of an operation. Addresses and values are hexadecimal numbers, lengths and sectors decimal ones, and
 -- registers and bytes have two digits each

@@ -3,14 +3,13 @@ ghost use Rattle.std.specs.Prelude.{◌≡◌, ◌∷◌, [], ◌++◌, ◌^◌,
 ghost use Rattle.hex.specs.Hex.{decode_of, encode_lower};
 ghost use Rattle.text_words.specs.Reads.{Reads};
 ghost use Rattle.text_words.specs.Words.{hex_byte};
-ghost use Rattle.raw_text.specs.HexNumber.{hex_number};
+ghost use Rattle.text_words.specs.HexNumber.{hex_number};
 ghost use Rattle.raw_text.specs.Raw.{ArePoked};
 
-use crate::hex_number::{read_hex_number, read_hex_word};
 use hex::FromHexError;
 use std::alloc::Global;
 use storage_model::{Bytes, NoMemory};
-use text_words::{Words, read_decimal, read_hex_byte};
+use text_words::{Words, read_decimal, read_hex_byte, read_hex_number, read_hex_u32};
 
 const MAX_POKED: usize = 512;
 
@@ -54,7 +53,7 @@ pub fn register_and_value(mut words: Words) -> Option<(u8, u32)>
     ensures { Reads result (λ f. (f.0 < 2 ^ 8) × (f.1 < 2 ^ 32) × (words.entry ≡ hex_byte f.0 ∷ hex_number f.1 ∷ [])) }
 {
     let register = read_hex_byte(words.next()?)?;
-    let value = read_hex_word(words.next()?)?;
+    let value = read_hex_u32(words.next()?)?;
     words.end()?;
     Some((register, value))
 }

@@ -3,7 +3,6 @@
 #![tactic(auto)]
 
 mod fields;
-mod hex_number;
 mod keyword;
 mod line;
 mod op;
@@ -11,6 +10,3 @@ mod read;
 
 pub use op::{RawList, RawOp};
 pub use read::read_raw;
-
-#[cfg(test)]
-mod tests;
