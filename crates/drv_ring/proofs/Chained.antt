@@ -105,5 +105,5 @@ chain-pieces memory layout tag blocks held lt some few chain =
       end = eq-eqb (m + 1) n e;
       transfers = chain-transfers layout tag blocks m e;
       inside = pieces-inside memory layout tag blocks held lt few;
-      wanted = pieces-length memory layout tag blocks held lt few ∙ omega arith;
+      wanted = pieces-length layout tag blocks ∙ omega arith;
     }

@@ -1,17 +1,21 @@
 -- The loops that write the table and the blocks of a tag: what is written stays while the rest is written.
-use Rattle.std.proofs.Common.{◌≡◌, ℕ, ◌+◌, ◌*◌, ◌<◌, inr, List, refl, subst, ◌∙◌, arith, below_more, Ok}
+use Rattle.std.proofs.Common.{◌≡◌, ℕ, ◌+◌, ◌*◌, ◌<◌, ◌≤◌, inr, List, [], refl, sym, subst, ◌∙◌, arith, below_more, Ok}
+use Rattle.std.proofs.lemmas.List.Elements.{All-nil, All-cons}
 use Rattle.host_mem.specs.Memory.{Memory, HasRange, bytes_of}
 use Rattle.storage_model.specs.declared.block.Block.{Block}
 use Rattle.storage_model.specs.declared.plan.Fill.{Fill}
 use Rattle.storage_model.specs.Plan.{block_at}
 use Rattle.cq_chain.specs.Descriptors.{Reads, size_of as descriptor_size}
+use Rattle.piece_data.specs.Laws.{IsApart}
 use Rattle.piece_data.proofs.Kept.{range-same_space}
 use Rattle.drv_ring.specs.declared.places.Layout.{Layout}
-use Rattle.drv_ring.specs.Layout.{table_at, buffer_at, HasLayout}
+use Rattle.drv_ring.specs.Layout.{table_at, block_place, HasLayout}
+use Rattle.drv_ring.specs.Pieces.{tag_pieces}
 use Rattle.drv_ring.specs.Asks.{transfer_at}
-use Rattle.drv_ring.specs.Changes.{ChangesWithin, area, table_area, buffer_area}
-use Rattle.drv_ring.proofs.Changed.{within-none, within-more, within-wider, within-kept, reads-kept}
-use Rattle.drv_ring.proofs.Inside.{table-inside, buffer-inside, row-ends, row-before}
+use Rattle.drv_ring.specs.Changes.{ChangesAmong, ChangesWithin, area, table_area}
+use Rattle.drv_ring.proofs.Changed.{space-more, within-none, within-more, within-wider, within-kept, reads-kept}
+use Rattle.drv_ring.proofs.Inside.{table-inside, row-ends, row-before}
+use Rattle.drv_ring.proofs.Scattered.{block-held, block-order, blocks-apart}
 
 -- the first `count` descriptors of the table
 pub record HasRows (layout : Layout) (tag blocks count : ℕ) (old new : Memory) : Type 0 where
@@ -55,36 +59,45 @@ rows-more layout tag blocks k at old middle new held lt few rows is reads change
           (within-wider (area at size) (table_area layout tag) middle new (omega arith) (omega arith) change);
     }
 
--- the first `count` blocks of the buffer
-pub record HasFill (layout : Layout) (tag : ℕ) (listed : List Block) (fill : Fill) (count : ℕ) (old new : Memory) : Type 0 where
-  pub written : (k : ℕ) → k < count → bytes_of new (buffer_at layout tag + 512 * k) 512 ≡ (block_at listed fill k).0
-  pub within : ChangesWithin (buffer_area layout tag) old new
+-- the first `count` of a tag's blocks
+pub record HasFill (layout : Layout) (tag blocks : ℕ) (listed : List Block) (fill : Fill) (count : ℕ) (old new : Memory) : Type 0 where
+  pub written : (k : ℕ) → k < count → bytes_of new (block_place layout tag k) 512 ≡ (block_at listed fill k).0
+  pub among : ChangesAmong (tag_pieces layout tag blocks) old new
 
-pub fill-none : (layout : Layout) (tag : ℕ) (listed : List Block) (fill : Fill) (memory : Memory) → HasFill layout tag listed fill 0 memory memory
-fill-none layout tag listed fill memory = record {
+pub fill-none : (layout : Layout) (tag blocks : ℕ) (listed : List Block) (fill : Fill) (memory : Memory) → HasFill layout tag blocks listed fill 0 memory memory
+fill-none layout tag blocks listed fill memory = record {
   written = λ k lt. absurd (omega arith);
-  within = within-none (buffer_area layout tag) memory;
+  among = record { space = record { base = refl; size = refl }; others = λ range has apart. refl };
 }
 
-pub block-inside : (layout : Layout) (tag count k at : ℕ) (listed : List Block) (fill : Fill) (old new : Memory) → HasLayout old layout
-    → tag < layout.depth → HasFill layout tag listed fill count old new → k < 1024 → at ≡ buffer_at layout tag + 512 * k → HasRange new at 512
-block-inside layout tag count k at listed fill old new held lt filled few is =
-    range-same_space old new at 512 filled.within.space (buffer-inside old layout tag at 512 held lt (omega arith) (omega arith))
+pub block-inside : (layout : Layout) (tag blocks count k at : ℕ) (listed : List Block) (fill : Fill) (old new : Memory) → HasLayout old layout
+    → tag < layout.depth → HasFill layout tag blocks listed fill count old new → k < 1024 → at ≡ block_place layout tag k → HasRange new at 512
+block-inside layout tag blocks count k at listed fill old new held lt filled few is =
+    let In : ℕ → Type 0 = λ place. HasRange old place 512 in
+    range-same_space old new at 512 filled.among.space (subst In (sym is) (block-held old layout tag k held lt few))
 
-pub fill-more : (layout : Layout) (tag k at : ℕ) (listed : List Block) (fill : Fill) (old middle new : Memory) → HasLayout old layout
-    → tag < layout.depth → k < 1024 → HasFill layout tag listed fill k old middle → at ≡ buffer_at layout tag + 512 * k
+pub fill-more : (layout : Layout) (tag blocks k at : ℕ) (listed : List Block) (fill : Fill) (old middle new : Memory) → HasLayout old layout
+    → tag < layout.depth → blocks ≤ 1024 → k < blocks → HasFill layout tag blocks listed fill k old middle → at ≡ block_place layout tag k
     → bytes_of new at 512 ≡ (block_at listed fill k).0 → ChangesWithin (area at 512) middle new
-    → HasFill layout tag listed fill (k + 1) old new
-fill-more layout tag k at listed fill old middle new held lt few filled is bytes change =
-    let P : ℕ → Type 0 = λ j. bytes_of new (buffer_at layout tag + 512 * j) 512 ≡ (block_at listed fill j).0 in
+    → HasFill layout tag blocks listed fill (k + 1) old new
+fill-more layout tag blocks k at listed fill old middle new held lt few less filled is bytes change =
+    let P : ℕ → Type 0 = λ j. bytes_of new (block_place layout tag j) 512 ≡ (block_at listed fill j).0 in
     let At : ℕ → Type 0 = λ place. bytes_of new place 512 ≡ (block_at listed fill k).0 in
     record {
       written = below_more P k
-          (λ j less.
-          let place = buffer_at layout tag + 512 * j in
-          let has : HasRange middle place 512 = block-inside layout tag k j place listed fill old middle held lt filled (omega arith) refl in
-          within-kept at 512 middle new change place 512 has (inr (omega arith)) ∙ filled.written j less)
+          (λ j before.
+          let place = block_place layout tag j in
+          let order = block-order layout tag j k lt before in
+          let has : HasRange middle place 512 = block-inside layout tag blocks k j place listed fill old middle held lt filled (omega arith) refl in
+          within-kept at 512 middle new change place 512 has (inr (omega (arith, order, is))) ∙ filled.written j before)
           (subst At is bytes);
-      within = within-more (buffer_area layout tag) old middle new filled.within
-          (within-wider (area at 512) (buffer_area layout tag) middle new (omega arith) (omega arith) change);
+      among = record {
+        space = space-more old middle new filled.among.space change.space;
+        others = λ range has apart.
+            let P : ℕ → Type 0 = λ place. IsApart range (area place 512) in
+            let own : IsApart range (area at 512) = subst P (sym is) (blocks-apart layout tag blocks k range less apart) in
+            change.others range (range-same_space old middle range.at range.len filled.among.space has)
+            (All-cons (IsApart range) (area at 512) [] own (All-nil (IsApart range)))
+            ∙ filled.among.others range has apart;
+      };
     }

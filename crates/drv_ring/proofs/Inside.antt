@@ -6,7 +6,7 @@ use Rattle.cq_task.specs.Place.{place_of}
 use Rattle.piece_data.specs.Laws.{HasSameSpace}
 use Rattle.piece_data.proofs.Kept.{range-same_space}
 use Rattle.drv_ring.specs.declared.places.Layout.{Layout}
-use Rattle.drv_ring.specs.Layout.{list_of, table_at, buffer_at, size_of, HasLayout}
+use Rattle.drv_ring.specs.Layout.{list_of, table_at, size_of, HasLayout}
 
 pub layout-same_space : (old new : Memory) (layout : Layout) → HasSameSpace old new → HasLayout old layout → HasLayout new layout
 layout-same_space old new layout space held = record {
@@ -92,10 +92,6 @@ row-before layout j k lt = elim (shape layout) [
 pub table-inside : (memory : Memory) (layout : Layout) (tag at len : ℕ) → HasLayout memory layout → tag < layout.depth
     → table_at layout tag ≤ at → at + len ≤ table_at layout tag + 4096 → HasRange memory at len
 table-inside memory layout tag at len held lt low high = part-inside memory layout at len held (omega arith) (omega (arith, held.depth))
-
-pub buffer-inside : (memory : Memory) (layout : Layout) (tag at len : ℕ) → HasLayout memory layout → tag < layout.depth
-    → buffer_at layout tag ≤ at → at + len ≤ buffer_at layout tag + 524288 → HasRange memory at len
-buffer-inside memory layout tag at len held lt low high = part-inside memory layout at len held (omega arith) (omega arith)
 
 -- the memory begins no later than the layout
 pub base-below : (memory : Memory) (layout : Layout) → HasLayout memory layout → memory.base ≤ layout.base

@@ -8,3 +8,4 @@ pub mod Filled
 pub mod Placed
 pub mod Jobs
 pub mod RingLaws
+pub mod Scattered

@@ -14,13 +14,14 @@ use Rattle.cq_task.specs.Place.{place_of, chain_of}
 use Rattle.piece_data.specs.Data.{block_of}
 use Rattle.piece_data.specs.Laws.{HasSameSpace, IsApart, KeepsOthers}
 use Rattle.drv_ring.specs.declared.places.Layout.{Layout}
-use Rattle.drv_ring.specs.Layout.{list_of, table_at, buffer_at, HasLayout, IsTagOf}
+use Rattle.drv_ring.specs.Layout.{list_of, table_at, block_place, HasLayout, IsTagOf}
 use Rattle.drv_ring.specs.Pieces.{tag_pieces}
 use Rattle.drv_ring.specs.Asks.{Asks, HasBlocks, HasChain, HasRest, transfer_at}
-use Rattle.drv_ring.specs.Changes.{KeepsTag, area, areas_of, slot_area, table_area, buffer_area}
+use Rattle.drv_ring.specs.Changes.{KeepsTag, area, areas_of, slot_area, table_area}
 use Rattle.drv_ring.proofs.Changed.{word-same, reads-kept}
-use Rattle.drv_ring.proofs.Inside.{layout-same_space, slot-inside, table-inside, buffer-inside, base-below, part-of, shape, slot-ends, size-some, row-ends}
+use Rattle.drv_ring.proofs.Inside.{layout-same_space, slot-inside, table-inside, part-of, shape, slot-ends, size-some, row-ends}
 use Rattle.drv_ring.proofs.Pieced.{block_of-pieces}
+use Rattle.drv_ring.proofs.Scattered.{block-held, low-apart, block-apart}
 use Rattle.drv_ring.proofs.Meant.{HasWord, asks-from, asks-word}
 
 -- the bytes that carry what a tag's slot asks for are the same
@@ -70,14 +71,14 @@ two-apart range slot table a b = All-cons (IsApart range) slot (table ∷ []) a 
 
 -- a range apart from the places of a tag is apart from those that a job changes
 areas-apart : (layout : Layout) (tag : ℕ) (job : Job) (range : Piece) → layout.depth ≤ 31 → IsTagOf layout tag job
-    → IsApart range (slot_area layout tag) → (tag < 31 → IsApart range (table_area layout tag)) → (tag < 31 → IsApart range (buffer_area layout tag))
-    → All (IsApart range) (areas_of layout tag job)
+    → IsApart range (slot_area layout tag) → (tag < 31 → IsApart range (table_area layout tag))
+    → (tag < layout.depth → (blocks : ℕ) → All (IsApart range) (tag_pieces layout tag blocks)) → All (IsApart range) (areas_of layout tag job)
 areas-apart layout tag (Read sector blocks high) range few fits slot table buffer =
     let lt : tag < 31 = omega arith in two-apart range (slot_area layout tag) (table_area layout tag) slot (table lt)
 areas-apart layout tag (Write sector blocks fill forced reliable high) range few fits slot table buffer =
     let lt : tag < 31 = omega arith in
-    All-cons (IsApart range) (slot_area layout tag) (table_area layout tag ∷ buffer_area layout tag ∷ []) slot
-    (two-apart range (table_area layout tag) (buffer_area layout tag) (table lt) (buffer lt))
+    All-cons (IsApart range) (slot_area layout tag) (table_area layout tag ∷ tag_pieces layout tag blocks) slot
+    (All-cons (IsApart range) (table_area layout tag) (tag_pieces layout tag blocks) (table lt) (buffer fits blocks))
 areas-apart layout tag Flush range few fits slot table buffer = All-cons (IsApart range) (slot_area layout tag) [] slot (All-nil (IsApart range))
 areas-apart layout tag Barrier range few fits slot table buffer = All-cons (IsApart range) (slot_area layout tag) [] slot (All-nil (IsApart range))
 areas-apart layout tag Status range few fits slot table buffer = All-cons (IsApart range) (slot_area layout tag) [] slot (All-nil (IsApart range))
@@ -115,7 +116,7 @@ slot-bytes layout tag other d n job old new writes lt apart within =
     (areas-apart layout tag job (area at n) writes.held.depth writes.fits
     (slot-apart layout tag other d n apart within)
     (λ below i j less low e. omega arith)
-    (λ below i j less low e. omega arith))
+    (λ below blocks. low-apart layout tag blocks (area at n) (omega arith)))
 
 table-bytes : (layout : Layout) (tag other at n : ℕ) (job : Job) (old new : Memory) → JobWrites layout tag job old new → other < layout.depth
     → other ≢ tag → table_at layout other ≤ at → at + n ≤ table_at layout other + 4096 → bytes_of new at n ≡ bytes_of old at n
@@ -127,7 +128,7 @@ table-bytes layout tag other at n job old new writes lt apart low high =
     (areas-apart layout tag job (area at n) depth writes.fits
     (λ i j less within e. omega arith)
     (λ below i j less within e. omega arith)
-    (λ below i j less within e. omega arith))
+    (λ below blocks. low-apart layout tag blocks (area at n) (omega arith)))
 
 abbrev made : List ℕ → Block
 made bytes = record { 0 = bytes }
@@ -136,20 +137,19 @@ buffer-block : (layout : Layout) (tag other blocks k : ℕ) (job : Job) (old new
     → other ≢ tag → blocks ≤ 1024 → k < blocks
     → block_of new (tag_pieces layout other blocks) k ≡ block_of old (tag_pieces layout other blocks) k
 buffer-block layout tag other blocks k job old new writes lt apart few within =
-    let at = buffer_at layout other + 512 * k in
+    let at = block_place layout other k in
     let depth = writes.held.depth in
     let own = tag-below layout tag job depth writes.fits in
     let ends = slot-ends layout tag own in
-    let has : HasRange old at 512 = buffer-inside old layout other at 512 writes.held lt (omega arith) (omega arith) in
-    let low = base-below old layout writes.held in
-    let still = base-below new layout (layout-same_space old new layout writes.space writes.held) in
-    block_of-pieces new layout other blocks k still within
+    let has : HasRange old at 512 = block-held old layout other k writes.held lt (omega arith) in
+    let still = layout-same_space old new layout writes.space writes.held in
+    block_of-pieces new layout other blocks k still lt few within
     ∙ ap made (writes.others (area at 512) has
     (areas-apart layout tag job (area at 512) depth writes.fits
     (λ i j less low e. omega arith)
     (λ below i j less low e. omega arith)
-    (λ below i j less low e. omega arith)))
-    ∙ sym (block_of-pieces old layout other blocks k low within)
+    (λ below count. block-apart layout tag other count k below lt apart)))
+    ∙ sym (block_of-pieces old layout other blocks k writes.held lt few within)
 
 pub others-kept : (layout : Layout) (tag other : ℕ) (job : Job) (old new : Memory) → JobWrites layout tag job old new → other < 32 → other ≢ tag
     → KeepsTag layout other old new

@@ -13,13 +13,14 @@ use Rattle.piece_data.specs.Data.{block_of}
 use Rattle.piece_data.specs.Laws.{HasSameSpace, IsApart, KeepsOthers}
 use Rattle.piece_data.proofs.Kept.{range-same_space}
 use Rattle.drv_ring.specs.declared.places.Layout.{Layout}
-use Rattle.drv_ring.specs.Layout.{list_of, table_at, buffer_at, HasLayout}
+use Rattle.drv_ring.specs.Layout.{list_of, table_at, block_place, HasLayout}
 use Rattle.drv_ring.specs.Pieces.{piece_count, tag_pieces}
 use Rattle.drv_ring.specs.Asks.{HasChain, transfer_at}
-use Rattle.drv_ring.specs.Changes.{ChangesWithin, area, slot_area, table_area, buffer_area}
+use Rattle.drv_ring.specs.Changes.{ChangesAmong, ChangesWithin, area, slot_area, table_area}
 use Rattle.drv_ring.proofs.Changed.{within-kept, word-same, reads-kept, others-more, pair-first, pair-within}
-use Rattle.drv_ring.proofs.Inside.{slot-inside, buffer-inside, base-below, layout-same_space, part-of, slot-ends, size-some}
+use Rattle.drv_ring.proofs.Inside.{slot-inside, layout-same_space, part-of, slot-ends, size-some}
 use Rattle.drv_ring.proofs.Pieced.{block_of-pieces}
+use Rattle.drv_ring.proofs.Scattered.{block-held}
 
 -- the two descriptors of a slot, one behind the other
 pub slot-first : (layout : Layout) (tag slot size : ℕ) (old middle new : Memory) → HasLayout old layout → tag < 32
@@ -82,32 +83,32 @@ made bytes = record { 0 = bytes }
 
 -- the blocks stay while the descriptors are written
 pub placed-data : (layout : Layout) (tag blocks k : ℕ) (listed : List Block) (fill : Fill) (old new : Memory) → HasLayout old layout
-    → tag < layout.depth → blocks ≤ 1024 → k < blocks → bytes_of old (buffer_at layout tag + 512 * k) 512 ≡ (block_at listed fill k).0
+    → tag < layout.depth → blocks ≤ 1024 → k < blocks → bytes_of old (block_place layout tag k) 512 ≡ (block_at listed fill k).0
     → HasSameSpace old new → KeepsOthers (slot_area layout tag ∷ table_area layout tag ∷ []) old new
     → block_of new (tag_pieces layout tag blocks) k ≡ block_at listed fill k
 placed-data layout tag blocks k listed fill old new held lt few within bytes space others =
-    let at = buffer_at layout tag + 512 * k in
+    let at = block_place layout tag k in
     let depth = held.depth in
     let ends = slot-ends layout tag (omega arith) in
-    let has : HasRange old at 512 = buffer-inside old layout tag at 512 held lt (omega arith) (omega arith) in
-    let still = base-below new layout (layout-same_space old new layout space held) in
+    let has : HasRange old at 512 = block-held old layout tag k held lt (omega arith) in
+    let still = layout-same_space old new layout space held in
     let P : Piece → Type 0 = IsApart (area at 512) in
-    block_of-pieces new layout tag blocks k still within
+    block_of-pieces new layout tag blocks k still lt few within
     ∙ ap made (others (area at 512) has
     (All-cons P (slot_area layout tag) (table_area layout tag ∷ []) (λ i j less low e. omega arith)
     (All-cons P (table_area layout tag) [] (λ i j less low e. omega arith) (All-nil P))))
     ∙ ap made bytes
 
-pub filled-outside : (layout : Layout) (tag : ℕ) (old middle new : Memory) → ChangesWithin (buffer_area layout tag) old middle
+pub filled-outside : (layout : Layout) (tag blocks : ℕ) (old middle new : Memory) → ChangesAmong (tag_pieces layout tag blocks) old middle
     → KeepsOthers (slot_area layout tag ∷ table_area layout tag ∷ []) middle new
-    → KeepsOthers (slot_area layout tag ∷ table_area layout tag ∷ buffer_area layout tag ∷ []) old new
-filled-outside layout tag old middle new first second = λ range has apart.
+    → KeepsOthers (slot_area layout tag ∷ table_area layout tag ∷ tag_pieces layout tag blocks) old new
+filled-outside layout tag blocks old middle new first second = λ range has apart.
     let P : Piece → Type 0 = IsApart range in
     let slot = slot_area layout tag in
     let table = table_area layout tag in
-    let buffer = buffer_area layout tag in
-    let rest = All-tail P slot (table ∷ buffer ∷ []) apart in
+    let pieces = tag_pieces layout tag blocks in
+    let rest = All-tail P slot (table ∷ pieces) apart in
     second range (range-same_space old middle range.at range.len first.space has)
-    (All-cons P slot (table ∷ []) (All-head P slot (table ∷ buffer ∷ []) apart)
-    (All-cons P table [] (All-head P table (buffer ∷ []) rest) (All-nil P)))
-    ∙ first.others range has (All-tail P table (buffer ∷ []) rest)
+    (All-cons P slot (table ∷ []) (All-head P slot (table ∷ pieces) apart)
+    (All-cons P table [] (All-head P table pieces rest) (All-nil P)))
+    ∙ first.others range has (All-tail P table pieces rest)

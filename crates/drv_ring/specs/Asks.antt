@@ -1,4 +1,4 @@
--- When a slot asks for a job, and when the buffer of a tag holds what a write is to write.
+-- When a slot asks for a job, and when the pieces of a tag hold what a write is to write.
 use Rattle.std.specs.Prelude.{◌≡◌, ◌<◌, ◌≤◌, ℕ, ◌+◌, ◌*◌, ◌==◌, Bool, false, List, Ok, replicate}
 use Rattle.host_mem.specs.Memory.{Memory, bytes_of}
 use Rattle.storage_model.specs.declared.block.Block.{Block}

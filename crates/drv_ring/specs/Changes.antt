@@ -9,8 +9,8 @@ use Rattle.cq_task.specs.Place.{place_of}
 use Rattle.piece_data.specs.Data.{block_of}
 use Rattle.piece_data.specs.Laws.{HasSameSpace, KeepsOthers}
 use Rattle.drv_ring.specs.declared.places.Layout.{Layout}
-use Rattle.drv_ring.specs.declared.places.TheConstants.{MOST_BLOCKS, TABLE_BYTES, BUFFER_BYTES}
-use Rattle.drv_ring.specs.Layout.{list_of, table_at, buffer_at}
+use Rattle.drv_ring.specs.declared.places.TheConstants.{MOST_BLOCKS, TABLE_BYTES}
+use Rattle.drv_ring.specs.Layout.{list_of, table_at}
 use Rattle.drv_ring.specs.Pieces.{tag_pieces}
 use Rattle.drv_ring.specs.Asks.{Asks}
 
@@ -22,20 +22,22 @@ pub record ChangesWithin (range : Piece) (old new : Memory) : Type 0 where
   pub space : HasSameSpace old new
   pub others : KeepsOthers (range ∷ []) old new
 
+-- no byte outside some ranges changes
+pub record ChangesAmong (ranges : List Piece) (old new : Memory) : Type 0 where
+  pub space : HasSameSpace old new
+  pub others : KeepsOthers ranges old new
+
 abbrev pub slot_area : Layout → ℕ → Piece
 slot_area layout tag = area (place_of (list_of layout) tag) (2 * descriptor_size layout.wide)
 
 abbrev pub table_area : Layout → ℕ → Piece
 table_area layout tag = area (table_at layout tag) TABLE_BYTES
 
-abbrev pub buffer_area : Layout → ℕ → Piece
-buffer_area layout tag = area (buffer_at layout tag) BUFFER_BYTES
-
--- where the bytes of a job stand: a read finds its buffer as it is
+-- where the bytes of a job stand: a read finds the pieces of its data as they are
 abbrev pub areas_of : Layout → ℕ → Job → List Piece
 areas_of layout tag (Read sector blocks high) = slot_area layout tag ∷ table_area layout tag ∷ []
 areas_of layout tag (Write sector blocks fill forced reliable high) =
-    slot_area layout tag ∷ table_area layout tag ∷ buffer_area layout tag ∷ []
+    slot_area layout tag ∷ table_area layout tag ∷ tag_pieces layout tag blocks
 areas_of layout tag _ = slot_area layout tag ∷ []
 
 -- a tag's slot asks for what it asked for, and its pieces hold what they held

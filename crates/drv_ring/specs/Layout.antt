@@ -1,13 +1,14 @@
--- Where the driver's tables and buffers stand in host memory: the task descriptor list at the base, then a table of transfer
--- descriptors and a buffer for each tag (get_desc, get_trans_desc and cqhci_host_alloc_tdl of the Linux driver's cqhci-core.c).
-use Rattle.std.specs.Prelude.{◌<◌, ◌≤◌, ◌≡◌, ◌^◌, ℕ, ◌+◌, ◌*◌, true, false}
+-- Where the driver's tables and the pieces of its data stand in host memory: the task descriptor list at the base, then a table
+-- of transfer descriptors for each tag, then the pieces, which the tags have by turns (get_desc, get_trans_desc and
+-- cqhci_host_alloc_tdl of the Linux driver's cqhci-core.c; its data lie in the pages that the block layer hands over).
+use Rattle.std.specs.Prelude.{◌<◌, ◌≤◌, ◌≡◌, ◌^◌, ℕ, ◌+◌, ◌*◌, ◌/◌, ◌%◌, true, false}
 use Rattle.host_mem.specs.Memory.{Memory, HasRange}
 use Rattle.storage_model.specs.declared.plan.Job.{Job}
 use Rattle.storage_model.specs.declared.plan.Job.TheVariants.{Read, Write, Flush, Barrier, Status}
 use Rattle.cq_task.specs.declared.list.TaskList.{TaskList}
 use Rattle.cq_task.specs.declared.list.TheConstants.{DIRECT_SLOT}
 use Rattle.drv_ring.specs.declared.places.Layout.{Layout}
-use Rattle.drv_ring.specs.declared.places.TheConstants.{MOST_DEPTH, FIRST_TABLE, TABLE_BYTES, FIRST_BUFFER, BUFFER_BYTES}
+use Rattle.drv_ring.specs.declared.places.TheConstants.{MOST_DEPTH, FIRST_TABLE, TABLE_BYTES, FIRST_PIECE, PIECE_BYTES, TAG_BYTES}
 
 -- the list of the slots, with direct commands in slot 31
 abbrev pub list_of : Layout → TaskList
@@ -17,12 +18,16 @@ list_of layout = record { base = layout.base; wide = layout.wide; direct = true 
 abbrev pub table_at : Layout → ℕ → ℕ
 table_at layout tag = layout.base + FIRST_TABLE + TABLE_BYTES * tag
 
--- the data of a tag
-abbrev pub buffer_at : Layout → ℕ → ℕ
-buffer_at layout tag = layout.base + FIRST_BUFFER + BUFFER_BYTES * tag
+-- piece k of a tag's data: first the pieces 0 of all tags, then the pieces 1, and so on
+abbrev pub piece_place : Layout → (tag k : ℕ) → ℕ
+piece_place layout tag k = layout.base + FIRST_PIECE + PIECE_BYTES * (layout.depth * k + tag)
+
+-- block k of a tag's data: a piece has 8 blocks
+abbrev pub block_place : Layout → (tag k : ℕ) → ℕ
+block_place layout tag k = piece_place layout tag (k / 8) + 512 * (k % 8)
 
 abbrev pub size_of : Layout → ℕ
-size_of layout = FIRST_BUFFER + BUFFER_BYTES * layout.depth
+size_of layout = FIRST_PIECE + TAG_BYTES * layout.depth
 
 -- the addresses of the layout are numbers of 64 bits
 abbrev pub HasAddresses : Layout → Type 0

@@ -1,11 +1,11 @@
-// The data of a tag: the blocks of its buffer.
+// The data of a tag: the blocks of its pieces.
 ghost use Rattle.std.specs.Prelude.{◌≡◌, ◌+◌, ◌*◌, ◌<◌, ◌≤◌, ◌^◌, ℕ};
 ghost use Rattle.storage_model.specs.Plan.{IsFillListed, block_at};
 ghost use Rattle.host_mem.specs.Memory.{bytes_of};
 ghost use Rattle.piece_data.specs.Data.{block_of};
-ghost use Rattle.drv_ring.specs.Layout.{HasAddresses, HasLayout, buffer_at};
+ghost use Rattle.drv_ring.specs.Layout.{HasAddresses, HasLayout, block_place};
 ghost use Rattle.drv_ring.specs.Pieces.{tag_pieces};
-ghost use Rattle.drv_ring.specs.Changes.{ChangesWithin, buffer_area};
+ghost use Rattle.drv_ring.specs.Changes.{ChangesAmong};
 
 use crate::Layout;
 use crate::places::MOST_BLOCKS;
@@ -20,12 +20,12 @@ impl Layout {
         requires room { HasAddresses self.now }
         requires tag { tag < self.now.depth }
         requires within { k < MOST_BLOCKS }
-        ensures { result ≡ buffer_at self.now tag + 512 * k }
+        ensures { result ≡ block_place self.now tag k }
     {
-        self.buffer_at(tag) + u64::from(BLOCK_BYTES * u32::from(k))
+        self.piece_place(tag, (k / 8) as u8) + u64::from(BLOCK_BYTES * u32::from(k % 8))
     }
 
-    /// Writes the blocks of a fill to the buffer of a tag, in order.
+    /// Writes the blocks of a fill to the pieces of a tag, in order.
     pub(crate) fn write_blocks(
         &self,
         mem: &mut HostMem,
@@ -38,8 +38,8 @@ impl Layout {
         requires tag { tag < self.now.depth }
         requires few { count ≤ MOST_BLOCKS }
         requires listed { IsFillListed plan.now.blocks fill count }
-        ensures written { (k : ℕ) → k < count → bytes_of mem.new (buffer_at self.now tag + 512 * k) 512 ≡ (block_at plan.now.blocks fill k).0 }
-        ensures within { ChangesWithin (buffer_area self.now tag) mem.old mem.new }
+        ensures written { (k : ℕ) → k < count → bytes_of mem.new (block_place self.now tag k) 512 ≡ (block_at plan.now.blocks fill k).0 }
+        ensures within { ChangesAmong (tag_pieces self.now tag count) mem.old mem.new }
     {
         for k in 0..count {
             let block = block_of(plan, fill, k);

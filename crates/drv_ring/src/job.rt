@@ -11,7 +11,7 @@ ghost use Rattle.piece_data.specs.Laws.{HasSameSpace, KeepsOthers};
 ghost use Rattle.drv_ring.specs.Layout.{HasLayout, IsTagOf, list_of, table_at};
 ghost use Rattle.drv_ring.specs.Pieces.{tag_pieces};
 ghost use Rattle.drv_ring.specs.Asks.{Asks, HasChain, HasNothing, HoldsData};
-ghost use Rattle.drv_ring.specs.Changes.{ChangesWithin, KeepsTag, areas_of, buffer_area, slot_area, table_area};
+ghost use Rattle.drv_ring.specs.Changes.{ChangesWithin, KeepsTag, areas_of, slot_area, table_area};
 
 use crate::Layout;
 use crate::places::MOST_BLOCKS;
@@ -23,7 +23,7 @@ use host_mem::HostMem;
 use storage_model::{Fill, Job, Plan};
 
 impl Layout {
-    /// Writes a job to the places of its tag: the slot, the table where it moves data, and the buffer where it is a write
+    /// Writes a job to the places of its tag: the slot, the table where it moves data, and the pieces of its data where it is a write
     /// (`cqhci_request` of the Linux driver, up to the doorbell; JESD84-B51, annex B). The slot asks for the job then, and
     /// every other tag has what it had. `int` says whether its completion interrupts at once. It takes no memory.
     pub fn write_job(&self, mem: &mut HostMem, tag: u8, job: &Job, plan: &Plan, int: bool)
@@ -71,7 +71,7 @@ impl Layout {
         ensures chain { HasChain mem.new self.now tag desc.now.blocks }
         ensures data { (k : ℕ) → k < desc.now.blocks → block_of mem.new (tag_pieces self.now tag desc.now.blocks) k ≡ block_at plan.now.blocks fill k }
         ensures space { HasSameSpace mem.old mem.new }
-        ensures outside { KeepsOthers (slot_area self.now tag ∷ table_area self.now tag ∷ buffer_area self.now tag ∷ []) mem.old mem.new }
+        ensures outside { KeepsOthers (slot_area self.now tag ∷ table_area self.now tag ∷ tag_pieces self.now tag desc.now.blocks) mem.old mem.new }
     {
         self.write_blocks(mem, tag, plan, fill, desc.blocks);
         self.write_data_task(mem, tag, desc);

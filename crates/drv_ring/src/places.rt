@@ -1,7 +1,7 @@
 ghost use Rattle.std.specs.Prelude.{◌≡◌, ◌+◌, ◌*◌, ◌<◌, ◌≤◌, ◌^◌};
 ghost use Rattle.cq_chain.specs.Descriptors.{size_of as descriptor_size};
 ghost use Rattle.cq_task.specs.Place.{place_of};
-ghost use Rattle.drv_ring.specs.Layout.{HasAddresses, buffer_at, list_of, size_of, table_at};
+ghost use Rattle.drv_ring.specs.Layout.{HasAddresses, list_of, piece_place, size_of, table_at};
 
 use cq_task::{SLOTS, TaskList};
 
@@ -17,13 +17,16 @@ pub const FIRST_TABLE: u64 = 1024;
 /// The bytes of a table.
 pub const TABLE_BYTES: u64 = 4096;
 
-/// How far the first buffer is from the base.
-pub const FIRST_BUFFER: u64 = 131_072;
+/// How far the first piece of data is from the base.
+pub const FIRST_PIECE: u64 = 131_072;
 
-/// The bytes of a buffer: the most blocks of a read or write.
-pub const BUFFER_BYTES: u64 = 524_288;
+/// The bytes of a piece: 8 blocks.
+pub const PIECE_BYTES: u32 = 4096;
 
-/// Where the driver's task descriptor list, tables and buffers stand in host memory, for so many tags.
+/// The bytes of all pieces of a tag: the most blocks of a read or write.
+pub const TAG_BYTES: u64 = 524_288;
+
+/// Where the driver's task descriptor list, tables and pieces of data stand in host memory, for so many tags.
 #[derive(Clone, Copy, Debug, PartialEq, Eq)]
 pub struct Layout {
     /// The address of slot 0.
@@ -47,7 +50,7 @@ impl Layout {
         requires { self.now.depth ≤ MOST_DEPTH }
         ensures { result ≡ size_of self.now }
     {
-        FIRST_BUFFER as u32 + BUFFER_BYTES as u32 * u32::from(self.depth)
+        FIRST_PIECE as u32 + TAG_BYTES as u32 * u32::from(self.depth)
     }
 
     /// The task descriptor list, with direct commands in slot 31.
@@ -87,12 +90,14 @@ impl Layout {
         self.base + FIRST_TABLE + TABLE_BYTES * u64::from(tag)
     }
 
-    /// The address of a tag's buffer.
-    pub(crate) fn buffer_at(&self, tag: u8) -> u64
+    /// The address of piece `k` of a tag's data: first come the pieces 0 of all tags, then the pieces 1, and so on.
+    pub(crate) fn piece_place(&self, tag: u8, k: u8) -> u64
         requires room { HasAddresses self.now }
         requires tag { tag < self.now.depth }
-        ensures { result ≡ buffer_at self.now tag }
+        requires within { k < 128 }
+        ensures { result ≡ piece_place self.now tag k }
     {
-        self.base + FIRST_BUFFER + BUFFER_BYTES * u64::from(tag)
+        let turn = u64::from(self.depth) * u64::from(k) + u64::from(tag);
+        self.base + FIRST_PIECE + u64::from(PIECE_BYTES) * turn
     }
 }

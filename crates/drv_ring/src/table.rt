@@ -7,11 +7,10 @@ ghost use Rattle.drv_ring.specs.Asks.{transfer_at};
 ghost use Rattle.drv_ring.specs.Changes.{ChangesWithin, table_area};
 
 use crate::Layout;
-use crate::places::MOST_BLOCKS;
+use crate::places::{MOST_BLOCKS, PIECE_BYTES};
 use crate::words::write_descriptor;
 use cq_chain::Piece;
 use cq_desc::Xfer;
-use cq_desc::layout::LONGEST_PIECE;
 use cq_task::BLOCK_BYTES;
 use host_mem::HostMem;
 
@@ -19,7 +18,7 @@ use host_mem::HostMem;
 fn piece_count(blocks: u16) -> u32
     ensures { result ≡ piece_count blocks }
 {
-    (BLOCK_BYTES * u32::from(blocks)).div_ceil(LONGEST_PIECE)
+    (BLOCK_BYTES * u32::from(blocks)).div_ceil(PIECE_BYTES)
 }
 
 impl Layout {
@@ -31,10 +30,9 @@ impl Layout {
         requires within { k < piece_count blocks }
         ensures { result ≡ piece_at self.now tag blocks k }
     {
-        let first = LONGEST_PIECE * k;
         Piece {
-            at: self.buffer_at(tag) + u64::from(first),
-            len: LONGEST_PIECE.min(BLOCK_BYTES * u32::from(blocks) - first),
+            at: self.piece_place(tag, k as u8),
+            len: PIECE_BYTES.min(BLOCK_BYTES * u32::from(blocks) - PIECE_BYTES * k),
         }
     }
 

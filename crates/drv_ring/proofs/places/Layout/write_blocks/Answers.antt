@@ -13,7 +13,7 @@ write_bytes-requires c =
     let long : length c.block_of-block.result.0 ≡ 512 = omega arith in
     let P : ℕ → Type 0 = λ n. HasRange c.loop-k.mem c.block_at.result n in
     subst P (sym long)
-    (block-inside c.args.self.now c.args.tag c.loop-k.k c.loop-k.k c.block_at.result _ c.args.fill
+    (block-inside c.args.self.now c.args.tag c.args.count c.loop-k.k c.loop-k.k c.block_at.result _ c.args.fill
     c.args.mem.now c.loop-k.mem c.requires.layout c.requires.tag c.loop-k.invariant
     (omega (arith, c.requires.few)) c.block_at.ensures)
 
@@ -23,7 +23,7 @@ loop-k-preserved c =
     let at = c.block_at.result in
     let new = c.write_bytes.new.mem in
     let P : ℕ → Type 0 = λ n. ChangesWithin (area at n) c.loop-k.mem new in
-    fill-more c.args.self.now c.args.tag c.loop-k.k at _ c.args.fill c.args.mem.now c.loop-k.mem new
-    c.requires.layout c.requires.tag (omega (arith, c.requires.few)) c.loop-k.invariant c.block_at.ensures
+    fill-more c.args.self.now c.args.tag c.args.count c.loop-k.k at _ c.args.fill c.args.mem.now c.loop-k.mem new
+    c.requires.layout c.requires.tag c.requires.few (omega arith) c.loop-k.invariant c.block_at.ensures
     (ap (bytes_of new at) (sym long) ∙ c.write_bytes.ensures.written ∙ ap (λ (b : Block). b.0) c.block_of-block.ensures)
     (subst P long c.write_bytes.ensures.within)

@@ -12,5 +12,5 @@ returns-clause-data c = λ k lt.
 
 pub returns-clause-outside : goal.returns-clause-outside
 returns-clause-outside c =
-    filled-outside c.args.self.now c.args.tag c.args.mem.now c.write_blocks.new.mem c.write_data_task.new.mem
+    filled-outside c.args.self.now c.args.tag c.args.desc.now.blocks c.args.mem.now c.write_blocks.new.mem c.write_data_task.new.mem
     c.write_blocks.ensures.within c.write_data_task.ensures.outside

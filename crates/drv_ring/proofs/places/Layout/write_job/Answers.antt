@@ -1,3 +1,8 @@
+use Rattle.std.proofs.Common.{ℕ, ◌∷◌, ap, subst}
+use Rattle.cq_desc.specs.declared.task.TaskDesc.{TaskDesc}
+use Rattle.piece_data.specs.Laws.{KeepsOthers}
+use Rattle.drv_ring.specs.Pieces.{tag_pieces}
+use Rattle.drv_ring.specs.Changes.{slot_area, table_area}
 use Rattle.storage_model.specs.declared.plan.Job.TheVariants.{Read, Write, Flush, Barrier, Status}
 use Rattle.drv_ring.proofs.Inside.{layout-same_space}
 use Rattle.drv_ring.proofs.Jobs.{read-asks, write-asks, outside-is, others-by}
@@ -37,15 +42,21 @@ returns-in-Write-clause-asks c =
 pub returns-in-Write-clause-outside : goal.returns-in-Write-clause-outside
 returns-in-Write-clause-outside c =
     let job = c.in-Write in
-    outside-is c.args.self.now c.args.tag c.args.job.now (Write job.sector job.blocks job.fill job.forced job.reliable job.high)
-    c.args.mem.now c.write_fill_task.new.mem job.is c.write_fill_task.ensures.outside
+    let a = c.args in
+    let Among : ℕ → Type 0 = λ n. KeepsOthers (slot_area a.self.now a.tag ∷ table_area a.self.now a.tag ∷ tag_pieces a.self.now a.tag n) a.mem.now c.write_fill_task.new.mem in
+    let blocks = ap (λ (desc : TaskDesc). desc.blocks) c.write_desc-desc.ensures in
+    outside-is a.self.now a.tag a.job.now (Write job.sector job.blocks job.fill job.forced job.reliable job.high)
+    a.mem.now c.write_fill_task.new.mem job.is (subst Among blocks c.write_fill_task.ensures.outside)
 
 pub returns-in-Write-clause-others : goal.returns-in-Write-clause-others
 returns-in-Write-clause-others c =
     let job = c.in-Write in
-    others-by c.args.self.now c.args.tag c.args.job.now (Write job.sector job.blocks job.fill job.forced job.reliable job.high)
-    c.args.mem.now c.write_fill_task.new.mem job.is c.requires.layout c.requires.tag c.write_fill_task.ensures.space
-    c.write_fill_task.ensures.outside
+    let a = c.args in
+    let Among : ℕ → Type 0 = λ n. KeepsOthers (slot_area a.self.now a.tag ∷ table_area a.self.now a.tag ∷ tag_pieces a.self.now a.tag n) a.mem.now c.write_fill_task.new.mem in
+    let blocks = ap (λ (desc : TaskDesc). desc.blocks) c.write_desc-desc.ensures in
+    others-by a.self.now a.tag a.job.now (Write job.sector job.blocks job.fill job.forced job.reliable job.high)
+    a.mem.now c.write_fill_task.new.mem job.is c.requires.layout c.requires.tag c.write_fill_task.ensures.space
+    (subst Among blocks c.write_fill_task.ensures.outside)
 
 pub returns-in-Flush-clause-outside : goal.returns-in-Flush-clause-outside
 returns-in-Flush-clause-outside c =

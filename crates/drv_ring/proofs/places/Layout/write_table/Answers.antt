@@ -1,8 +1,10 @@
-use Rattle.std.proofs.Common.{◌≡◌, ℕ, ◌+◌, ◌*◌, ap, subst, ◌∙◌, arith, Ok}
+use Rattle.std.proofs.Common.{◌≡◌, ℕ, ◌+◌, ◌*◌, ap, sym, subst, ◌∙◌, arith, Ok}
 use Rattle.cq_desc.specs.declared.xfer.Xfer.{Xfer}
 use Rattle.cq_chain.specs.Descriptors.{Reads, size_of}
+use Rattle.cq_desc.specs.Transfer.{IsXferInRange}
 use Rattle.drv_ring.specs.Layout.{table_at}
 use Rattle.drv_ring.proofs.Filled.{rows-none, row-inside, rows-more}
+use Rattle.drv_ring.proofs.Scattered.{transfer-fits}
 use Rattle.drv_ring.proofs.places.Layout.write_table.Goals as goal
 
 row-is : (table size k at width row : ℕ) → at ≡ table → width ≡ size → row ≡ k → at + width * row ≡ table + size * k
@@ -31,3 +33,10 @@ loop-k-preserved c =
     c.requires.layout c.requires.tag (omega (arith, c.requires.blocks)) c.loop-k.invariant is
     (subst P c.transfer_at-xfer.ensures c.write_descriptor.ensures.written)
     c.write_descriptor.ensures.within
+
+pub write_descriptor-requires-clause-fits : goal.write_descriptor-requires-clause-fits
+write_descriptor-requires-clause-fits c =
+    let a = c.args in
+    let Fits : Xfer → Type 0 = IsXferInRange a.self.now.wide in
+    subst Fits (sym c.transfer_at-xfer.ensures)
+    (transfer-fits a.mem.now a.self.now a.tag a.blocks c.loop-k.k c.requires.layout c.requires.tag c.requires.blocks (omega arith))
