@@ -1,7 +1,11 @@
+pub mod Busy
+pub mod Counting
 pub mod Events
+pub mod Fresh
 pub mod Keeping
 pub mod Lying
 pub mod Outcomes
 pub mod Places
 pub mod SlotLaws
+pub mod Standing
 pub mod Written

@@ -1,6 +1,6 @@
 -- An event of the engine: what is due, the one call of the link that it makes, and what its answer leads to (host interface
 -- annex of JESD84-B51).
-use Rattle.std.specs.Prelude.{◌≡◌, ℕ, ◌*◌, List, Result, Ok, Err}
+use Rattle.std.specs.Prelude.{◌≡◌, ℕ, ◌*◌, List, OnOk, Result, Ok, Err}
 use Rattle.std.specs.Bool.{MatchBool}
 use Rattle.std.specs.Option.{IsSomeAnd, option_or}
 use Rattle.storage_model.specs.declared.block.Block.{Block}
@@ -23,7 +23,7 @@ use Rattle.cq_schedule.specs.declared.rules.Due.TheVariants.{Rest, Block as Next
 use Rattle.cq_schedule.specs.Held.{held_at, noted, remembered}
 use Rattle.cq_schedule.specs.Meaning.{HasItsSlot, IsDue, list_of}
 use Rattle.piece_data.specs.Data.{block_of, parts, with_block}
-use Rattle.piece_data.specs.Laws.{HasSameSpace, KeepsOthers}
+use Rattle.piece_data.specs.Laws.{AreApart, ChangesBlock, HasSameSpace, KeepsOthers}
 use Rattle.cq_engine.specs.declared.did.Did.{Did}
 use Rattle.cq_engine.specs.declared.did.Did.TheVariants.{Idle}
 use Rattle.cq_engine.specs.Words.{direct_of, execute_of, params_of, poll_of}
@@ -54,7 +54,7 @@ abbrev pub read_into : Memory → List Piece → (k : ℕ) → Block → Result 
 read_into memory pieces k block (Ok _) = with_block memory pieces k block
 read_into memory pieces k block (Err end) = memory
 
--- a block was read into the pieces, and the answer led on
+-- a block was read into the pieces, where it is block k of their data now if they are apart, and the answer led on
 pub record Takes {L : Type 0} (made : L → Call → L → Type 0) (old new : L) (pieces : List Piece) (k : ℕ) (memory memory' : Memory)
     (left : Outcome) (after : Result (Unit {0}) LinkEnd → Outcome) : Type 0 where
   pub block : Block
@@ -63,6 +63,7 @@ pub record Takes {L : Type 0} (made : L → Call → L → Type 0) (old new : L)
   pub written : memory' ≡ read_into memory pieces k block answer
   pub space : HasSameSpace memory memory'
   pub others : KeepsOthers (parts pieces (512 * k) 512) memory memory'
+  pub blocks : AreApart pieces → OnOk answer (ChangesBlock pieces memory memory' k block)
   pub outcome : left ≡ after answer
 
 -- a data phase was ended, and its word led on

@@ -4,3 +4,4 @@ pub mod After
 pub mod Event
 pub mod Ends
 pub mod Holds
+pub mod Standings

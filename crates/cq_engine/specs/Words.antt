@@ -12,7 +12,7 @@ use Rattle.cmd_words.specs.Command.{decoded}
 use Rattle.cq_desc.specs.declared.direct.DirectDesc.{DirectDesc}
 use Rattle.cq_desc.specs.declared.task.TaskDesc.{TaskDesc}
 use Rattle.cq_regs.specs.State.{Registers}
-use Rattle.cq_engine.specs.declared.words.TheConstants.{COMMAND_INDEX, COMMAND_TASK, COMMAND_VALID, DATA_INDEX, DATA_TASK, DATA_VALID, QUEUE_RCA}
+use Rattle.cq_desc.specs.Fields.{field}
 
 -- CMD44 of the task of a slot
 abbrev pub params_of : ℕ → TaskDesc → Command
@@ -29,21 +29,22 @@ params_of slot desc = Params (record {
 abbrev pub execute_of : ℕ → TaskDesc → Command
 execute_of slot desc = Execute desc.read slot
 
--- CMD13 that asks for the queue status word, with the address of the card in CQSSC2
+-- CMD13 that asks for the queue status word, with the address of the card in the low half of CQSSC2
 abbrev pub poll_of : Registers → Command
-poll_of regs = Status true (number_in regs.send_status_2 QUEUE_RCA)
+poll_of regs = Status true (number_in regs.send_status_2 (field 0 16))
 
 -- the command of a direct descriptor; words that are no command go out as they stand
 abbrev pub direct_of : DirectDesc → Command
 direct_of desc = result_unwrap_or (decoded desc.index desc.arg) (Other desc.index desc.arg)
 
--- the task error information of a command that was not answered well: its index and its slot
+-- the task error information of a command that was not answered well: its index in bits 5:0, its slot in bits 12:8, and the
+-- valid bit 15
 abbrev pub command_error : (index slot : ℕ) → ℕ
-command_error index slot = word_with (at COMMAND_INDEX index ∷ at COMMAND_TASK slot ∷ at COMMAND_VALID 1 ∷ [])
+command_error index slot = word_with (at (field 0 6) index ∷ at (field 8 5) slot ∷ at (field 15 1) 1 ∷ [])
 
--- the same of a data phase
+-- the same of a data phase: bits 21:16, 28:24 and 31
 abbrev pub data_error : (index slot : ℕ) → ℕ
-data_error index slot = word_with (at DATA_INDEX index ∷ at DATA_TASK slot ∷ at DATA_VALID 1 ∷ [])
+data_error index slot = word_with (at (field 16 6) index ∷ at (field 24 5) slot ∷ at (field 31 1) 1 ∷ [])
 
 -- whether a response has a bit of the response error mask
 abbrev pub is_masked : Registers → ℕ → Bool

@@ -1,5 +1,5 @@
 //! The one call of the link in each kind of event.
-ghost use Rattle.std.specs.Prelude.{◌≡◌, ◌<◌, ◌*◌, true, false, IsSome};
+ghost use Rattle.std.specs.Prelude.{◌≡◌, ◌<◌, ◌*◌, true, false, IsSome, OnOk};
 ghost use Rattle.std.specs.Option.{IsSomeAnd};
 ghost use Rattle.cmd_words.specs.declared.command.Command.TheVariants.{Address};
 ghost use Rattle.cq_regs.specs.declared.slots.Progress.TheVariants.{Named, Ready, Rung};
@@ -7,7 +7,7 @@ ghost use Rattle.cq_regs.specs.Slots.{progress_of};
 ghost use Rattle.cq_schedule.specs.Held.{held_at, Places};
 ghost use Rattle.cq_schedule.specs.Meaning.{list_of};
 ghost use Rattle.piece_data.specs.Data.{block_of, parts};
-ghost use Rattle.piece_data.specs.Laws.{HasSameSpace, KeepsOthers};
+ghost use Rattle.piece_data.specs.Laws.{AreApart, ChangesBlock, HasSameSpace, KeepsOthers};
 ghost use Rattle.cq_engine.specs.After.{after_address, after_block, after_close, after_direct, after_execute, after_params, after_poll};
 ghost use Rattle.cq_engine.specs.Ends.{Uses};
 ghost use Rattle.cq_engine.specs.Event.{Closes, Exchanges, Gives, IsServed, MovesBlock, Takes, read_into};
@@ -209,6 +209,7 @@ fn take_into(mem: &mut HostMem, task: &DataTask, k: u16, block: &Block, answer: 
     ensures written { mem.new ≡ read_into mem.old task.now.pieces k block.now answer }
     ensures space { HasSameSpace mem.old mem.new }
     ensures others { KeepsOthers (parts task.now.pieces (512 * k) 512) mem.old mem.new }
+    ensures blocks { AreApart task.now.pieces → OnOk answer (ChangesBlock task.now.pieces mem.old mem.new k block.now) }
 {
     match answer {
         Ok(()) => write_block(mem, task.pieces.as_slice(), k, block),

@@ -1,12 +1,15 @@
-ghost use Rattle.std.specs.Prelude.{◌≡◌, ◌↔◌, true, false, None, Some, IfOk, IsNone, if◌then◌else◌};
+ghost use Rattle.std.specs.Prelude.{◌≡◌, ◌↔◌, ◌⊎◌, [], true, false, None, Some, IfOk, IsNone, if◌then◌else◌};
 ghost use Rattle.std.specs.Option.{option_or};
 ghost use Rattle.host_mem.specs.Memory.{Memory};
 ghost use Rattle.piece_data.specs.Laws.{HasSameSpace};
 ghost use Rattle.cq_regs.specs.Effects.{at_reset};
+ghost use Rattle.cq_regs.specs.Slots.{IsRing};
+ghost use Rattle.cq_regs.specs.State.{Registers};
 ghost use Rattle.cq_schedule.specs.Holding.{HasTasks, HoldsTasks};
+ghost use Rattle.cq_schedule.specs.Meaning.{rests};
 ghost use Rattle.cq_engine.specs.Ends.{Uses};
 ghost use Rattle.cq_engine.specs.Event.{Acts};
-ghost use Rattle.cq_engine.specs.Holds.{LieIn};
+ghost use Rattle.cq_engine.specs.Holds.{AreCounted, LieIn};
 ghost use Rattle.cq_engine.specs.Outcome.{host_of, outcome_of, stop_of};
 
 use crate::Did;
@@ -38,6 +41,7 @@ impl Engine {
     ghost use Rattle.cq_engine.specs.Event.{Event};
     ghost use Rattle.cq_engine.specs.Holds.{Holds};
     ghost use Rattle.cq_engine.specs.Outcome.{holds_nothing};
+    ghost use Rattle.cq_engine.specs.Standings.{MovesBy, completed_by, set_up_of};
 
     /// An engine that holds no task. It takes all its memory here.
     ///
@@ -47,7 +51,10 @@ impl Engine {
     pub fn start(alloc: Global) -> Result<Engine, NoMemory>
         ensures nothing { IfOk result (λ engine. engine ≡ holds_nothing) }
         ensures holds { IfOk result (λ engine. Holds engine at_reset) }
+        // with any registers of which none is rung, and that say no stop
+        ensures fresh { IfOk result (λ engine. (regs : Registers) → regs.stopped ≡ false → regs.ring ≡ [] → Holds engine regs) }
         ensures lie { IfOk result (λ engine. (memory : Memory) → LieIn memory engine.held) }
+        ensures counts { IfOk result (λ engine. AreCounted engine.held) }
     {
         let held = HeldTasks::start(alloc)?;
         Ok(Engine { held, cause: None })
@@ -57,7 +64,9 @@ impl Engine {
     pub fn reset(&mut self)
         ensures nothing { self.new ≡ holds_nothing }
         ensures holds { Holds self.new at_reset }
+        ensures fresh { (regs : Registers) → regs.stopped ≡ false → regs.ring ≡ [] → Holds self.new regs }
         ensures lie { (memory : Memory) → LieIn memory self.new.held }
+        ensures counts { AreCounted self.new.held }
     {
         self.held.reset();
         self.cause = None;
@@ -95,11 +104,21 @@ impl Engine {
         ensures holds { Holds self.new regs.new }
         ensures lie { LieIn mem.new self.new.held }
         ensures space { HasSameSpace mem.old mem.new }
+        // nothing is done just where the engine rests or no slot is rung
+        ensures idle { (result ≡ Did.Idle) ↔ ((rests regs.old ≡ true) ⊎ (regs.old.ring ≡ [])) }
+        ensures ring { IsRing regs.new.ring }
+        // what becomes of the slots and of the completed tasks, and that what a driver set up stays
+        ensures slots { MovesBy result regs.old regs.new }
+        ensures done { regs.new.completed ≡ completed_by result regs.old.completed }
+        ensures set_up { set_up_of regs.new ≡ set_up_of regs.old }
+        ensures counts { AreCounted self.old.held → AreCounted self.new.held }
     {
+        regs.keeps_ring();
         self.held.forget(regs);
         let did = act(&mut self.held, regs, mem, link);
         self.held.note(regs);
         note_stop(&mut self.cause, &did);
+        regs.keeps_ring();
         did
     }
 }

@@ -11,6 +11,3 @@ mod words;
 pub use cq_task::DropCause;
 pub use did::Did;
 pub use engine::Engine;
-
-#[cfg(test)]
-mod tests;

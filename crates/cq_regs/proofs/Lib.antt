@@ -1,3 +1,5 @@
 pub mod RingLaws
 pub mod RungLaws
 pub mod ProgressLaws
+pub mod CalmLaws
+pub mod BitLaws

@@ -1,11 +1,11 @@
 -- What each register reads, what a write of it does, and what the calls of the engine change: every register that a line
 -- does not name stays (host interface annex of JESD84-B51; drivers/mmc/host/cqhci.h).
-use Rattle.std.specs.Prelude.{◌≡◌, ℕ, ◌-◌, ◌^◌, ◌==◌, ◌&&◌, Bool, true, false, not, [], if◌then◌else◌}
+use Rattle.std.specs.Prelude.{◌≡◌, ◌<◌, ℕ, ◌-◌, ◌^◌, ◌==◌, ◌&&◌, Bool, true, false, not, [], if◌then◌else◌}
 use Rattle.std.specs.Int.{bit_at, from_bool}
 use Rattle.std.specs.Int.RustNames.{bit_and, bit_or}
 use Rattle.cq_regs.specs.declared.coalesce.Coalescing.{Coalescing}
 use Rattle.cq_regs.specs.declared.slots.Progress.{Progress}
-use Rattle.cq_regs.specs.declared.slots.Progress.TheVariants.{Ready, Rung}
+use Rattle.cq_regs.specs.declared.slots.Progress.TheVariants.{Idle, Ready, Rung}
 use Rattle.cq_regs.specs.declared.table.Register.{Register}
 use Rattle.cq_regs.specs.declared.table.Register.TheVariants.{Version, Capabilities, Configuration, Control, InterruptStatus, InterruptStatusEnable, InterruptSignalEnable, InterruptCoalescing, ListBase, ListBaseUpper, Doorbell, CompletionNotification, DeviceQueueStatus, DevicePendingTasks, TaskClear, SendStatusConfiguration1, SendStatusConfiguration2, DirectCommandResponse, ResponseErrorMask, TaskErrorInformation, CommandResponseIndex, CommandResponseArgument}
 use Rattle.cq_regs.specs.declared.table.Access.{Access}
@@ -117,11 +117,14 @@ controlled regs value =
 abbrev pub belled : Registers → ℕ → Registers
 belled regs value = if has_bit regs.configuration 0 then record regs { ring = rung regs.ring value } else regs
 
--- a write of the doorbell while the engine is enabled rings the slots of the word that are not rung
+-- a write of the doorbell while the engine is enabled rings the slots of the word that are not rung, and one of the task clear
+-- while it is halted makes those of the word idle
 abbrev pub RingsSlots : Registers → Register → ℕ → Registers → Type 0
 RingsSlots old Doorbell value new =
     has_bit old.configuration 0 ≡ true
     → Moves old.ring new.ring (λ slot progress. if has_bit value slot && not (is_rung progress) then Rung else progress)
+RingsSlots old TaskClear value new =
+    old.halted ≡ true → Moves old.ring new.ring (λ slot progress. if has_bit value slot then Idle else progress)
 RingsSlots old _ value new = Unit {0}
 
 -- a write of the task clear: clears the tasks of the word while the engine is halted
@@ -140,6 +143,16 @@ acted regs _ value = regs
 -- a word without the bits of another
 abbrev pub without_bits : (word bits : ℕ) → ℕ
 without_bits word bits = bit_and word (2 ^ 32 - 1 - bits)
+
+-- the bits that are 1 in one word are 0 now, and the others are as they were
+abbrev pub LosesBits : (word ones left : ℕ) → Type 0
+LosesBits word ones left = (b : ℕ) → b < 32 → has_bit left b ≡ (has_bit word b && not (has_bit ones b))
+
+-- a write of the interrupt status or of the completion notification clears the bits that it has
+abbrev pub ClearsOnes : Registers → Register → ℕ → Registers → Type 0
+ClearsOnes old InterruptStatus value new = LosesBits old.interrupts value new.interrupts
+ClearsOnes old CompletionNotification value new = LosesBits old.completed value new.completed
+ClearsOnes old _ value new = Unit {0}
 
 -- a write, by the table
 abbrev pub written_by : Access → Registers → Register → ℕ → Registers

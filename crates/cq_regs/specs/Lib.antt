@@ -3,3 +3,4 @@ pub mod Coalesce
 pub mod Table
 pub mod State
 pub mod Effects
+pub mod Calm

@@ -22,6 +22,12 @@ is_sent Ready = true
 is_sent Active = true
 is_sent _ = false
 
+-- whether a slot is named, and its task not complete
+abbrev pub is_begun : Progress → Bool
+is_begun Idle = false
+is_begun Rung = false
+is_begun _ = true
+
 -- whether a slot waits for the engine's next command
 abbrev pub waits : Progress → Bool
 waits Rung = true

@@ -40,3 +40,28 @@ rows =
 -- the line of an offset
 abbrev pub row_at : ℕ → Option Row
 row_at offset = find (λ row. row.offset == offset) rows
+
+-- where a register stands
+abbrev pub offset_of : Register → ℕ
+offset_of Version = 0x00
+offset_of Capabilities = 0x04
+offset_of Configuration = 0x08
+offset_of Control = 0x0c
+offset_of InterruptStatus = 0x10
+offset_of InterruptStatusEnable = 0x14
+offset_of InterruptSignalEnable = 0x18
+offset_of InterruptCoalescing = 0x1c
+offset_of ListBase = 0x20
+offset_of ListBaseUpper = 0x24
+offset_of Doorbell = 0x28
+offset_of CompletionNotification = 0x2c
+offset_of DeviceQueueStatus = 0x30
+offset_of DevicePendingTasks = 0x34
+offset_of TaskClear = 0x38
+offset_of SendStatusConfiguration1 = 0x40
+offset_of SendStatusConfiguration2 = 0x44
+offset_of DirectCommandResponse = 0x48
+offset_of ResponseErrorMask = 0x50
+offset_of TaskErrorInformation = 0x54
+offset_of CommandResponseIndex = 0x58
+offset_of CommandResponseArgument = 0x5c

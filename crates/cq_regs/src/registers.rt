@@ -1,12 +1,12 @@
-ghost use Rattle.std.specs.Prelude.{◌≡◌, ◌==◌, ◌<◌, true, not, map, IfSome, IsTrue, if◌then◌else◌, slice_get};
+ghost use Rattle.std.specs.Prelude.{◌≡◌, ◌==◌, ◌<◌, ◌≤◌, true, not, map, length, IfSome, IsTrue, if◌then◌else◌, slice_get};
 ghost use Rattle.std.specs.Int.{bit_at, from_bool};
 ghost use Rattle.std.specs.Int.RustNames.{bit_and, bit_or};
 ghost use Rattle.std.specs.Option.{ok_or, option_map, option_map_or};
-ghost use Rattle.cq_regs.specs.declared.table.Access.TheVariants.{Acts};
+ghost use Rattle.cq_regs.specs.declared.table.Access.TheVariants.{Acts, OneClears};
 ghost use Rattle.cq_regs.specs.declared.table.Register.TheVariants.{Doorbell};
 ghost use Rattle.cq_regs.specs.declared.slots.Progress.TheVariants.{Idle};
-ghost use Rattle.cq_regs.specs.Slots.{has_bit, is_rung, made_ready, next, progress_of, readied, waits, without, Moves};
-ghost use Rattle.cq_regs.specs.Table.{row_at, rows};
+ghost use Rattle.cq_regs.specs.Slots.{has_bit, is_rung, made_ready, next, progress_of, readied, waits, without, IsRing, Moves};
+ghost use Rattle.cq_regs.specs.Table.{offset_of, row_at, rows};
 
 use crate::coalesce::Coalescing;
 use crate::slots::{Progress, Ring, is_set, slot_bit};
@@ -17,14 +17,17 @@ use std::marker::Model;
 #[derive(Clone, Copy, Debug, PartialEq, Eq)]
 pub struct NoRegister;
 
-/// The bits of the interrupt status. In Linux CQHCI_IS_HAC, CQHCI_IS_TCC, CQHCI_IS_RED and CQHCI_IS_TCL.
-const HALT_COMPLETE: u32 = 0x1;
+/// `CQHCI_IS_HAC`, a bit of the interrupt status, of its enable and of its signal enable: the engine is halted.
+pub const HALT_COMPLETE: u32 = 0x1;
 
-const TASK_COMPLETE: u32 = 0x2;
+/// `CQHCI_IS_TCC`: tasks completed, the notice.
+pub const TASK_COMPLETE: u32 = 0x2;
 
-const RESPONSE_ERROR: u32 = 0x4;
+/// `CQHCI_IS_RED`: the engine stopped for a response, or for the lack of one.
+pub const RESPONSE_ERROR: u32 = 0x4;
 
-const TASKS_CLEARED: u32 = 0x8;
+/// `CQHCI_IS_TCL`: tasks were cleared.
+pub const TASKS_CLEARED: u32 = 0x8;
 
 /// The version that the host interface reports, 5.10 (CQHCI_VER).
 const VERSION: u32 = 0x0510;
@@ -82,7 +85,8 @@ impl Model for Regs {
 }
 
 impl Regs {
-    ghost use Rattle.cq_regs.specs.Effects.{acted, at_reset, belled, cleared, completed, controlled, counted_in, moved_on, noticed_if, notified, raised, response_error, stored, task_cleared, ticked_in, value_of, written, RingsSlots, ShowsSlots};
+    ghost use Rattle.cq_regs.specs.Calm.{IsCalm};
+    ghost use Rattle.cq_regs.specs.Effects.{acted, at_reset, belled, cleared, completed, controlled, counted_in, moved_on, noticed_if, notified, raised, response_error, stored, task_cleared, ticked_in, value_of, written, ClearsOnes, RingsSlots, ShowsSlots};
 
     /// The registers at reset.
     pub fn new() -> Regs
@@ -142,6 +146,9 @@ impl Regs {
         ensures answer { result ≡ ok_or (option_map (λ _. tt) (row_at offset)) (record {}) }
         ensures after { self.new ≡ option_map_or (λ row. written self.old row value) (row_at offset) self.old }
         ensures rings { IfSome (row_at offset) (λ row. row.access ≡ Acts → RingsSlots self.old row.register value self.new) }
+        ensures ones { IfSome (row_at offset) (λ row. row.access ≡ OneClears → ClearsOnes self.old row.register value self.new) }
+        // the tasks that are under way stay as they are, and no stop begins
+        ensures calm { IsCalm self.old self.new }
     {
         match row_at(offset) {
             Some(row) => {
@@ -150,6 +157,13 @@ impl Regs {
             }
             None => Err(NoRegister),
         }
+    }
+
+    /// Writes a register by its name.
+    pub fn set(&mut self, register: Register, value: u32)
+        ensures { self.new ≡ option_map_or (λ row. written self.old row value) (row_at (offset_of register)) self.old }
+    {
+        let _ = self.write(register.offset(), value);
     }
 
     /// What a register reads. The bits of the doorbell are those of the rung slots, and the bits of the device pending tasks
@@ -196,8 +210,19 @@ impl Regs {
         ensures value { result ≡ option_map (λ r. r.slot) (slice_get self.now.ring k) }
         ensures below { IfSome result (λ slot. slot < 32) }
         ensures started { IfSome result (λ slot. is_rung (progress_of self.now.ring slot) ≡ true) }
+        ensures ring { IsRing self.now.ring }
+        ensures most { length self.now.ring ≤ 32 }
     {
         self.ring.nth(k)
+    }
+
+    /// Tells what the registers keep of the slots that are rung: each is below 32, none of them is idle, and none is twice
+    /// among them, so that there are 32 at most. It does nothing.
+    pub fn keeps_ring(&self)
+        ensures ring { IsRing self.now.ring }
+        ensures most { length self.now.ring ≤ 32 }
+    {
+        let _ = self.ring.nth(0);
     }
 
     /// Moves a slot on after its command was answered: a rung one is named, a named one is sent, a ready one is active, and
@@ -296,6 +321,7 @@ impl Regs {
     fn put(&mut self, row: Row, value: u32)
         ensures after { self.new ≡ written self.old row value }
         ensures rings { row.access ≡ Acts → RingsSlots self.old row.register value self.new }
+        ensures ones { row.access ≡ OneClears → ClearsOnes self.old row.register value self.new }
     {
         match row.access {
             Access::ReadOnly => {}

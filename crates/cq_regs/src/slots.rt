@@ -1,4 +1,4 @@
-ghost use Rattle.std.specs.Prelude.{◌≡◌, ℕ, ◌==◌, ◌&&◌, not, ◌<◌, ◌^◌, true, [], IsTrue, IfSome, if◌then◌else◌, slice_get};
+ghost use Rattle.std.specs.Prelude.{◌≡◌, ℕ, ◌==◌, ◌&&◌, not, ◌<◌, ◌≤◌, ◌^◌, true, length, [], IsTrue, IfSome, if◌then◌else◌, slice_get};
 ghost use Rattle.std.specs.Int.{bit_at, from_bool};
 ghost use Rattle.std.specs.List.{All, find};
 ghost use Rattle.std.specs.Option.{option_map};
@@ -147,6 +147,8 @@ impl Ring {
         ensures value { result ≡ option_map (λ r. r.slot) (slice_get self.now k) }
         ensures below { IfSome result (λ slot. slot < 32) }
         ensures started { IfSome result (λ slot. is_rung (progress_of self.now slot) ≡ true) }
+        ensures ring { IsRing self.now }
+        ensures most { length self.now ≤ 32 }
     {
         Some(self.slots.as_slice().get(usize::from(k))?.slot)
     }

@@ -51,6 +51,40 @@ pub enum Register {
     CommandResponseArgument,
 }
 
+impl Register {
+    ghost use Rattle.cq_regs.specs.Table.{offset_of};
+
+    /// Where the register stands.
+    pub fn offset(self) -> u8
+        ensures { result ≡ offset_of self }
+    {
+        match self {
+            Register::Version => 0x00,
+            Register::Capabilities => 0x04,
+            Register::Configuration => 0x08,
+            Register::Control => 0x0c,
+            Register::InterruptStatus => 0x10,
+            Register::InterruptStatusEnable => 0x14,
+            Register::InterruptSignalEnable => 0x18,
+            Register::InterruptCoalescing => 0x1c,
+            Register::ListBase => 0x20,
+            Register::ListBaseUpper => 0x24,
+            Register::Doorbell => 0x28,
+            Register::CompletionNotification => 0x2c,
+            Register::DeviceQueueStatus => 0x30,
+            Register::DevicePendingTasks => 0x34,
+            Register::TaskClear => 0x38,
+            Register::SendStatusConfiguration1 => 0x40,
+            Register::SendStatusConfiguration2 => 0x44,
+            Register::DirectCommandResponse => 0x48,
+            Register::ResponseErrorMask => 0x50,
+            Register::TaskErrorInformation => 0x54,
+            Register::CommandResponseIndex => 0x58,
+            Register::CommandResponseArgument => 0x5c,
+        }
+    }
+}
+
 /// What a write of a register does.
 #[derive(Clone, Copy, Debug, PartialEq, Eq)]
 pub enum Access {

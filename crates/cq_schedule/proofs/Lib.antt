@@ -4,3 +4,5 @@ pub mod Serving
 pub mod Progresses
 pub mod HeldLaws
 pub mod OneDue
+pub mod Idle
+pub mod Plain

@@ -1,17 +1,10 @@
 -- Which tasks the engine has to hold.
-use Rattle.std.specs.Prelude.{◌≡◌, ℕ, ◌<◌, Bool, true, false, IsSome}
+use Rattle.std.specs.Prelude.{◌≡◌, ℕ, ◌<◌, true, false, IsSome}
 use Rattle.std.specs.Option.{IsSomeAnd}
-use Rattle.cq_regs.specs.declared.slots.Progress.{Progress}
-use Rattle.cq_regs.specs.declared.slots.Progress.TheVariants.{Idle, Rung}
 use Rattle.cq_regs.specs.State.{Registers}
+pub use Rattle.cq_regs.specs.Slots.{is_begun}
 use Rattle.cq_regs.specs.Slots.{progress_of}
 use Rattle.cq_schedule.specs.Held.{Places, held_at}
-
--- whether a slot is named, and not complete
-abbrev pub is_begun : Progress → Bool
-is_begun Idle = false
-is_begun Rung = false
-is_begun _ = true
 
 -- the engine holds the task of a slot, and left it as far as it is
 abbrev pub IsHeld : Places → Registers → ℕ → Type 0

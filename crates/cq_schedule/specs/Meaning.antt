@@ -1,14 +1,13 @@
 -- What the engine does next: of these rules the first that applies (host interface annex of JESD84-B51).
-use Rattle.std.specs.Prelude.{◌≡◌, ◌≢◌, ℕ, ◌+◌, ◌*◌, ◌^◌, ◌<◌, ◌≤◌, ◌||◌, ◌⊎◌, nat_lt, Bool, true, not, Option, Some, None, slice_get, if◌then◌else◌}
+use Rattle.std.specs.Prelude.{◌≡◌, ◌≢◌, ℕ, ◌+◌, ◌*◌, ◌^◌, ◌<◌, ◌≤◌, ◌||◌, ◌⊎◌, nat_lt, Bool, true, not, length, Option, Some, None, slice_get, if◌then◌else◌}
 use Rattle.std.specs.Option.{option_map, option_map_or, MatchOption}
 use Rattle.host_mem.specs.Memory.{Memory}
-use Rattle.cq_words.specs.Table.{is_set}
 use Rattle.cq_regs.specs.declared.slots.Progress.{Progress}
 use Rattle.cq_regs.specs.declared.slots.Progress.TheVariants.{Rung, Named, Sent, Ready, Active}
 use Rattle.cq_regs.specs.State.{Registers}
 use Rattle.cq_regs.specs.Slots.{has_bit, progress_of}
 use Rattle.cq_task.specs.declared.list.TaskList.{TaskList}
-use Rattle.cq_task.specs.declared.list.TheConstants.{WIDE_DESCRIPTORS, DIRECT_COMMANDS}
+use Rattle.cq_task.specs.Place.{are_direct, are_wide}
 use Rattle.cq_task.specs.Meaning.{HasBarrier}
 use Rattle.cq_schedule.specs.declared.rules.Due.{Due}
 use Rattle.cq_schedule.specs.declared.rules.Due.TheVariants.{Rest, Block, Close, Address, Serve, Execute, Poll, Tick}
@@ -20,8 +19,8 @@ use Rattle.cq_schedule.specs.Order.{order_of, first_at, first_high, has_flag, bl
 abbrev pub list_of : Registers → TaskList
 list_of regs = record {
   base = regs.list_base_upper * 2 ^ 32 + regs.list_base;
-  wide = is_set regs.configuration WIDE_DESCRIPTORS;
-  direct = is_set regs.configuration DIRECT_COMMANDS;
+  wide = are_wide regs.configuration;
+  direct = are_direct regs.configuration;
 }
 
 -- the engine is disabled, halted or stopped
@@ -99,6 +98,18 @@ pub record IsDueThen (held : Places) (regs : Registers) (memory : Memory) (due :
 abbrev pub IsDue : Places → Registers → Memory → Due → Type 0
 IsDue held regs memory due =
     MatchOption (before_serving held regs) (IsDueThen held regs memory due) (λ first. due ≡ first)
+
+-- a slot with a queue barrier is the only one that is rung
+abbrev pub AloneIfBars : Places → Registers → Memory → Type 0
+AloneIfBars held regs memory = (k slot : ℕ) → IsAt regs k slot → Bars held regs memory slot → length regs.ring ≤ 1
+
+-- what the engine does next where no queue barrier holds a slot back: the first of these that there is
+abbrev pub plain_due : Places → Registers → Due
+plain_due held regs =
+    if rests regs then Rest
+    else option_map_or (next_of_phase held) (first_at Active regs.ring)
+    (option_map_or Address (first_at Named regs.ring)
+    (option_map_or Serve (first_at Rung regs.ring) (after_serving held regs)))
 
 -- a slot is so far, and its task is held
 pub record IsHeldAt (held : Places) (regs : Registers) (progress : Progress) (slot : ℕ) : Type 0 where

@@ -1,7 +1,7 @@
-ghost use Rattle.std.specs.Prelude.{◌≡◌, ◌↔◌, ◌<◌, true, None, Some, IfOk, IsTrue, length, slice_set};
+ghost use Rattle.std.specs.Prelude.{◌≡◌, ◌↔◌, ◌<◌, None, Some, IfOk, IsTrue, length, slice_set};
 ghost use Rattle.std.specs.Option.{option_copied, option_map, IsSomeAnd};
 ghost use Rattle.cq_regs.specs.Slots.{progress_of};
-ghost use Rattle.cq_schedule.specs.Holding.{is_begun, HasTasks, HoldsTasks, IsHeld};
+ghost use Rattle.cq_schedule.specs.Holding.{HasTasks, HoldsTasks};
 ghost use Rattle.cq_schedule.specs.Held.{held_at, kept, left_at, newly_held, none_held, noted, remembered, same, with_block, EachBecomes, HasBlockLeft};
 
 use cq_regs::{Progress, Regs};
@@ -109,22 +109,6 @@ impl HeldTasks {
         self.places[usize::from(slot)] = None;
     }
 
-    /// Whether the engine holds, while it isn't stopped, the task of each slot that is named and not complete, and left each
-    /// of them as far as its slot is.
-    pub fn holds_tasks(&self, regs: &Regs) -> bool
-        ensures { IsTrue result ↔ HoldsTasks self.now regs.now }
-    {
-        if regs.is_stopped() {
-            return true;
-        }
-        for slot in 0..SLOTS {
-            if !is_held_if_begun(self, regs, slot) {
-                return false;
-            }
-        }
-        true
-    }
-
     /// Notes how far the slots of the tasks that are held have come: so far the engine leaves them.
     pub fn note(&mut self, regs: &Regs)
         ensures all { self.new ≡ noted self.old regs.now }
@@ -151,7 +135,7 @@ fn forget(places: &mut [Option<HeldTask>], regs: &Regs)
     ensures holds { HoldsTasks places.old regs.now → HoldsTasks places.new regs.now }
 {
     for slot in 0..SLOTS {
-        keep_at(&mut places[usize::from(slot)], regs.progress(slot));
+        keep_at(&mut places[usize::from(slot)], regs, slot);
     }
 }
 
@@ -162,16 +146,17 @@ fn note(places: &mut [Option<HeldTask>], regs: &Regs)
     ensures holds { HasTasks places.old regs.now → HoldsTasks places.new regs.now }
 {
     for slot in 0..SLOTS {
-        leave_at(&mut places[usize::from(slot)], regs.progress(slot));
+        leave_at(&mut places[usize::from(slot)], regs, slot);
     }
 }
 
 // Forgets a task, unless its slot is as far as the engine left it.
-fn keep_at(place: &mut Option<HeldTask>, progress: Progress)
-    ensures { place.new ≡ kept progress place.old }
+fn keep_at(place: &mut Option<HeldTask>, regs: &Regs, slot: u8)
+    requires { slot < 32 }
+    ensures { place.new ≡ kept (progress_of regs.now.ring slot) place.old }
 {
     let moved_on = match place {
-        Some(held) => !same(held.progress, progress),
+        Some(held) => !same(held.progress, regs.progress(slot)),
         None => false,
     };
     if moved_on {
@@ -180,34 +165,13 @@ fn keep_at(place: &mut Option<HeldTask>, progress: Progress)
 }
 
 // Notes how far the slot of a task is.
-fn leave_at(place: &mut Option<HeldTask>, progress: Progress)
-    ensures { place.new ≡ left_at progress place.old }
+fn leave_at(place: &mut Option<HeldTask>, regs: &Regs, slot: u8)
+    requires { slot < 32 }
+    ensures { place.new ≡ left_at (progress_of regs.now.ring slot) place.old }
 {
     if let Some(held) = place {
-        held.progress = progress;
+        held.progress = regs.progress(slot);
     }
-}
-
-// Whether a slot needs no task, or its task is held and left as far as the slot is.
-fn is_held_if_begun(held: &HeldTasks, regs: &Regs, slot: u8) -> bool
-    requires { slot < 32 }
-    ensures { IsTrue result ↔ (is_begun (progress_of regs.now.ring slot) ≡ true → IsHeld held.now regs.now slot) }
-{
-    let progress = regs.progress(slot);
-    if !is_begun(progress) {
-        return true;
-    }
-    match held.get(slot) {
-        Some(h) => same(h.progress, progress),
-        None => false,
-    }
-}
-
-// Whether a slot is named, and not complete.
-fn is_begun(progress: Progress) -> bool
-    ensures { result ≡ is_begun progress }
-{
-    !matches!(progress, Progress::Idle | Progress::Rung)
 }
 
 // Whether two slots have come equally far.

@@ -8,6 +8,3 @@ mod schedule;
 pub use held::{HeldTask, HeldTasks};
 pub use rules::Due;
 pub use schedule::due;
-
-#[cfg(test)]
-mod tests;

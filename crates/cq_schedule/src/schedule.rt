@@ -1,11 +1,12 @@
-ghost use Rattle.std.specs.Prelude.{◌≡◌, ◌<◌, ◌↔◌, ◌&&◌, false, IfSome, IsTrue, slice_get};
+ghost use Rattle.std.specs.Prelude.{◌≡◌, ◌<◌, ◌↔◌, ◌&&◌, false, [], IfSome, IsTrue, slice_get};
 ghost use Rattle.cq_regs.specs.declared.slots.Progress.TheVariants.{Ready, Rung};
 ghost use Rattle.cq_regs.specs.Slots.{progress_of};
 ghost use Rattle.cq_task.specs.Meaning.{HasBarrier};
+ghost use Rattle.cq_schedule.specs.declared.rules.Due.TheVariants.{Tick};
 ghost use Rattle.cq_schedule.specs.Held.{same};
 ghost use Rattle.cq_schedule.specs.Holding.{HoldsTasks};
 ghost use Rattle.cq_schedule.specs.Order.{blocks_of, first_at, first_high, has_flag, is_high, moved_of, order_of};
-ghost use Rattle.cq_schedule.specs.Meaning.{after_serving, before_serving, list_of, next_of_phase, rests, HasItsSlot, IsDue, IsNextServed};
+ghost use Rattle.cq_schedule.specs.Meaning.{after_serving, before_serving, list_of, next_of_phase, plain_due, rests, AloneIfBars, HasItsSlot, IsDue, IsNextServed};
 
 use crate::held::{HeldTasks, same};
 use crate::rules::Due;
@@ -26,6 +27,19 @@ use host_mem::HostMem;
 /// A queue barrier holds its own slot while any slot that was rung before it is not complete, and all slots that were rung
 /// after it. That of a rung slot is read from the memory now; that of others was read when they were served.
 pub fn due(held: &HeldTasks, regs: &Regs, mem: &HostMem) -> Due
+    requires { HoldsTasks held.now regs.now }
+    ensures due { IsDue held.now regs.now mem.now result }
+    ensures slot { HasItsSlot held.now regs.now result }
+    // the timer alone is due just where the engine runs and no slot is rung
+    ensures idle { (result ≡ Tick) ↔ ((rests regs.now ≡ false) × (regs.now.ring ≡ [])) }
+    // where a slot with a queue barrier is rung alone, none is held back
+    ensures plain { AloneIfBars held.now regs.now mem.now → result ≡ plain_due held.now regs.now }
+{
+    regs.keeps_ring();
+    first_due(held, regs, mem)
+}
+
+fn first_due(held: &HeldTasks, regs: &Regs, mem: &HostMem) -> Due
     requires { HoldsTasks held.now regs.now }
     ensures due { IsDue held.now regs.now mem.now result }
     ensures slot { HasItsSlot held.now regs.now result }

@@ -38,7 +38,7 @@ with_chain-means memory wide word chain desc (Err fault) reads w = record { desc
 same_desc : (word : ℕ) (desc other : TaskDesc) → task_read word ≡ Ok desc → task_read word ≡ Ok other → other ≡ desc
 same_desc word desc other h g = cc
 
-means-with_chain : (memory : Memory) (wide : Bool) (word chain : ℕ) (desc : TaskDesc) (walked : ChainAnswer) → task_read word ≡ Ok desc
+pub means-with_chain : (memory : Memory) (wide : Bool) (word chain : ℕ) (desc : TaskDesc) (walked : ChainAnswer) → task_read word ≡ Ok desc
     → Walked memory wide chain (desc.blocks * block_bytes) walked → (answer : Answer) → MeansData memory wide word chain answer
     → with_chain desc walked ≡ answer
 means-with_chain memory wide word chain desc walked reads w (Ok (Direct other)) h = absurd h

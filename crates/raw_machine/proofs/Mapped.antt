@@ -55,6 +55,7 @@ module _ {L M : Type 0} (seen : L → M) (made : L → Call → L → Type 0) (m
     written = e.written;
     space = e.space;
     others = e.others;
+    blocks = e.blocks;
     outcome = e.outcome;
   }
 

@@ -1,4 +1,4 @@
-use Rattle.std.proofs.Common.{arith, subst, ap}
+use Rattle.std.proofs.Common.{arith, subst, refl}
 use Rattle.cq_regs.specs.Slots.{progress_of}
 use Rattle.cq_schedule.specs.Held.{held_at, kept}
 use Rattle.cq_schedule.proofs.Filling.{IsFilled, filled_all, filled_write}
@@ -19,6 +19,6 @@ returns-clause-holds c = HoldsTasks-remembered c.args.places.now c.loop-slot.pla
 
 pub loop-slot-preserved : goal.loop-slot-preserved
 loop-slot-preserved c =
-    filled_write (λ slot. kept (progress_of c.args.regs.now.ring slot) (held_at c.args.places.now slot)) (kept c.progress.result) c.args.places.now
+    filled_write (λ slot. kept (progress_of c.args.regs.now.ring slot) (held_at c.args.places.now slot)) (kept (progress_of c.args.regs.now.ring c.loop-slot.slot)) c.args.places.now
     c.loop-slot.places c.loop-slot.slot c.from.result c.index-places-from.result c.keep_at.new.place c.loop-slot-test.true c.loop-slot.invariant
-    c.from.ensures c.keep_at.ensures (ap (λ p. kept p (held_at c.args.places.now c.loop-slot.slot)) c.progress.ensures)
+    c.from.ensures c.keep_at.ensures refl

@@ -1,9 +1,18 @@
 use Rattle.std.proofs.Common.{sym, subst}
+use Rattle.std.specs.Prelude.{None}
 use Rattle.cq_schedule.specs.Held.{Places}
-use Rattle.cq_engine.specs.Holds.{LieIn}
+use Rattle.cq_engine.specs.Holds.{AreCounted, LieIn}
 use Rattle.cq_engine.proofs.Lying.{lie_none}
+use Rattle.cq_engine.proofs.Counting.{counted_none}
+use Rattle.cq_engine.proofs.Fresh.{holds_fresh}
 use Rattle.cq_engine.proofs.engine.Engine.reset.Goals as goal
 
 pub returns-clause-lie : goal.returns-clause-lie
 returns-clause-lie c memory =
     let P : Places → Type 0 = λ held. LieIn memory held in subst P (sym c.reset.ensures) (lie_none memory)
+
+pub returns-clause-fresh : goal.returns-clause-fresh
+returns-clause-fresh c regs runs empty = holds_fresh c.reset.new.self None regs runs empty
+
+pub returns-clause-counts : goal.returns-clause-counts
+returns-clause-counts c = let P : Places → Type 0 = λ held. AreCounted held in subst P (sym c.reset.ensures) counted_none
