@@ -1,90 +1,116 @@
 -- A trace's text has one meaning or one first bad line.
-use Rattle.std.proofs.Common.{◌≡◌, ◌⊎◌, inl, inr, ℕ, ◌+◌, List, [], ◌∷◌, ◌++◌, length, refl, sym, ap, ◌∙◌, arith, append_assoc}
-use Rattle.std.specs.Prelude.{All, min}
+use Rattle.std.proofs.Common.{◌≡◌, ◌≢◌, inl, inr, ℕ, Bool, false, ◌+◌, ◌-◌, ◌≤◌, List, [], ◌∷◌, ◌++◌, length, refl, sym, ap, subst, ◌∙◌, arith, append_assoc}
+use Rattle.std.specs.Prelude.{All, ◌==◌}
+use Rattle.std.proofs.lemmas.Bool.{eqb-false}
+use Rattle.std.proofs.lemmas.Grind.{flat_map-append}
 use Rattle.std.proofs.lemmas.List.{append-nil, length-append}
-use Rattle.std.proofs.lemmas.List.Elements.{All-head, All-tail}
+use Rattle.std.proofs.lemmas.List.Elements.{All-nil, All-cons, All-head, All-tail, All-append}
 use Rattle.storage_model.specs.declared.trace.Item.{Item}
-use Rattle.trace_text.specs.Trace.{IsBadAfter, IsBadAt, IsItem, Means, item_text, items_text}
-use Rattle.trace_text.proofs.ItemTexts.{item_text-long}
+use Rattle.text_words.specs.Texts.{IsBadAt}
+use Rattle.text_words.proofs.BadLines.{HasLines, no_bad_line}
+use Rattle.text_words.proofs.LineLists.{lines_ended, none_next, one_list}
+use Rattle.text_words.proofs.LineTexts.{cut, lines_of}
+use Rattle.trace_text.specs.Trace.{AreWithin, IsItem, Means, item_text, items_text}
+use Rattle.trace_text.proofs.ItemTexts.{item_is_line, item_text-long}
 use Rattle.trace_text.proofs.OneItem.{one_item}
 
--- of two texts that agree, one goes on with items of the other
-record Goes (items : List Item) (x : List ℕ) (others : List Item) (y : List ℕ) : Type 0 where
-  more : List Item
-  list : others ≡ items ++ more
-  rest : x ≡ items_text more ++ y
-  each : All IsItem more
+items_text-push : (items : List Item) (item : Item) → items_text (items ++ item ∷ []) ≡ items_text items ++ item_text item
+items_text-push items item = flat_map-append item_text items (item ∷ []) ∙ ap (λ t. items_text items ++ t) (append-nil (item_text item))
 
-goes_on : (item other : Item) (items others : List Item) (x y : List ℕ) → item ≡ other → Goes items x others y → Goes (item ∷ items) x (other ∷ others) y
-goes_on item other items others x y same goes = record { more = goes.more; list = (let list = goes.list in cc); rest = goes.rest; each = goes.each }
+All-front : (items more : List Item) → All IsItem (items ++ more) → All IsItem items
+All-front [] more all = All-nil IsItem
+All-front (item ∷ items) more all = All-cons IsItem item items (All-head IsItem item (items ++ more) all) (All-front items more (All-tail IsItem item (items ++ more) all))
 
-overlap : (items others : List Item) (x y : List ℕ) → All IsItem items → All IsItem others → items_text items ++ x ≡ items_text others ++ y → Goes items x others y ⊎ Goes others y items x
-overlap [] others x y all each same = inl (record { more = others; list = refl; rest = same; each = each })
-overlap (item ∷ items) [] x y all each same = inr (record { more = item ∷ items; list = refl; rest = sym same; each = all })
-overlap (item ∷ items) (other ∷ others) x y all each same =
-    let parts = one_item item other (items_text items ++ x) (items_text others ++ y) (All-head IsItem item items all) (All-head IsItem other others each)
-    (sym (append_assoc (item_text item) (items_text items) x) ∙ same ∙ append_assoc (item_text other) (items_text others) y) in
-    elim (overlap items others x y (All-tail IsItem item items all) (All-tail IsItem other others each) parts.1) [
-      | inl goes ↦ inl (goes_on item other items others x y parts.0 goes)
-      | inr goes ↦ inr (goes_on other item others items y x (sym parts.0) goes)
-    ]
+All-back : (items more : List Item) → All IsItem (items ++ more) → All IsItem more
+All-back [] more all = all
+All-back (item ∷ items) more all = All-back items more (All-tail IsItem item (items ++ more) all)
 
--- where nothing is left, nothing more was read
-none_left : (more : List Item) (y : List ℕ) → [] ≡ items_text more ++ y → (more ≡ []) × (y ≡ [])
-none_left [] y is = (refl, sym is)
-none_left (item ∷ more) y is =
-    absurd (omega (arith, item_text-long item, ap length is, length-append (item_text item ++ items_text more) y, length-append (item_text item) (items_text more)))
+-- the front of what one text can have is what one text can have
+within_front : (items more : List Item) → AreWithin (items ++ more) → AreWithin items
+within_front items more within = record {
+  each = All-front items more within.each;
+  bytes = omega (arith, within.bytes, ap length (flat_map-append item_text items more), length-append (items_text items) (items_text more));
+}
 
--- no item stands at a bad line
-none_at_bad : (bytes : List ℕ) (good : List Item) (rest : List ℕ) (more : List Item) (y : List ℕ) → IsBadAfter bytes good rest → rest ≡ items_text more ++ y → All IsItem more → more ≡ []
-none_at_bad bytes good rest [] y bad is each = refl
-none_at_bad bytes good rest (item ∷ more) y bad is each =
-    absurd (bad.bad item (items_text more ++ y) (All-head IsItem item more each) (is ∙ append_assoc (item_text item) (items_text more) y))
+same_item_text : (item other : Item) → IsItem item → IsItem other → item_text item ≡ item_text other → item ≡ other
+same_item_text item other valid sound same = (one_item item other [] [] valid sound (ap (λ t. t ++ []) same)).0
 
 -- a text means one list of items
 pub one_meaning : (bytes : List ℕ) (items others : List Item) → Means bytes items → Means bytes others → items ≡ others
-one_meaning bytes items others means also =
-    let same : items_text items ++ [] ≡ items_text others ++ [] = append-nil (items_text items) ∙ sym means.text ∙ also.text ∙ sym (append-nil (items_text others)) in
-    elim (overlap items others [] [] means.each also.each same) [
-      | inl goes ↦ (let none = none_left goes.more [] goes.rest in sym (goes.list ∙ ap (λ more. items ++ more) none.0 ∙ append-nil items))
-      | inr goes ↦ (let none = none_left goes.more [] goes.rest in goes.list ∙ ap (λ more. others ++ more) none.0 ∙ append-nil others)
-    ]
+one_meaning bytes items others means also = one_list item_text IsItem item_is_line same_item_text items others means.within.each also.within.each (sym means.text ∙ also.text)
+
+not_empty : (more b : List ℕ) → [] ≡ more ++ 10 ∷ b → ⊥
+not_empty more b none = omega (arith, ap length none, length-append more (10 ∷ b))
+
+-- each front of whole lines is a trace
+has_lines : HasLines Means
+has_lines = record {
+  front = λ a b items means.
+      elim (cut IsItem item_text item_is_line items [] a b means.within.each (append-nil (items_text items) ∙ sym means.text)) [
+        | inl within ↦ (
+            let P : List Item → Type 0 = λ all. AreWithin all in (
+              within.front,
+              record { text = within.whole; within = within_front within.front within.back (subst P within.list means.within) },
+            )
+            )
+        | inr behind ↦ absurd (not_empty behind.more b behind.rest)
+      ];
+  ended = λ bytes items means. rw means.text (lines_ended IsItem item_text item_is_line items means.within.each);
+}
 
 -- a text that means items has no bad line
-pub no_bad_line : (bytes : List ℕ) (items : List Item) (number : ℕ) → Means bytes items → IsBadAt bytes number → ⊥
-no_bad_line bytes items number means bad =
-    let good = bad.0 in
-    let rest = bad.1 in
-    let same : items_text items ++ [] ≡ items_text good ++ rest = append-nil (items_text items) ∙ sym means.text ∙ bad.2.text in
-    elim (overlap items good [] rest means.each bad.2.each same) [
-      | inl goes ↦ bad.2.more (none_left goes.more rest goes.rest).1
-      | inr goes ↦ (
-          let none = none_at_bad bytes good rest goes.more [] bad.2 goes.rest goes.each in
-          bad.2.more (goes.rest ∙ ap (λ more. items_text more ++ []) none)
-          )
-    ]
+pub no_bad_item : (bytes : List ℕ) (items : List Item) (number : ℕ) → Means bytes items → IsBadAt Means bytes number → ⊥
+no_bad_item bytes items number means bad = no_bad_line Means has_lines bytes items number means bad
 
-same_length : (good others more : List Item) → others ≡ good ++ more → more ≡ [] → min (length good + 1) 4294967295 ≡ min (length others + 1) 4294967295
-same_length good others more list none = ap (λ items. min (length items + 1) 4294967295) (sym (list ∙ ap (λ m. good ++ m) none ∙ append-nil good))
+-- how many more bytes a text can have
+pub room_left : (bytes : List ℕ) (items : List Item) (rest : List ℕ) → bytes ≡ items_text items ++ rest → AreWithin items → 16777216 - (length bytes - length rest) + length (items_text items) ≡ 16777216
+room_left bytes items rest text within = omega (arith, within.bytes, ap length text, length-append (items_text items) rest)
 
--- a text has one first bad line
-pub one_bad_line : (bytes : List ℕ) (number other : ℕ) → IsBadAt bytes number → IsBadAt bytes other → number ≡ other
-one_bad_line bytes number other bad also =
-    elim (overlap bad.0 also.0 bad.1 also.1 bad.2.each also.2.each (sym bad.2.text ∙ also.2.text)) [
-      | inl goes ↦ (
-          let none = none_at_bad bytes bad.0 bad.1 goes.more also.1 bad.2 goes.rest goes.each in
-          bad.3 ∙ same_length bad.0 also.0 goes.more goes.list none ∙ sym also.3
-          )
-      | inr goes ↦ (
-          let none = none_at_bad bytes also.0 also.1 goes.more bad.1 also.2 goes.rest goes.each in
-          bad.3 ∙ sym (same_length also.0 bad.0 goes.more goes.list none) ∙ sym also.3
-          )
-    ]
+-- one item more, where its line fits
+pub within_push : (items : List Item) (item : Item) (room : ℕ) → AreWithin items → IsItem item → length (item_text item) ≤ room → room + length (items_text items) ≡ 16777216 → AreWithin (items ++ item ∷ [])
+within_push items item room within valid fits counted = record {
+  each = All-append IsItem items (item ∷ []) within.each (All-cons IsItem item [] valid (All-nil IsItem));
+  bytes = omega (arith, ap length (items_text-push items item), length-append (items_text items) (item_text item));
+}
+
+-- what stands after one item more
+pub text_push : (bytes : List ℕ) (items : List Item) (item : Item) (rest after : List ℕ) → bytes ≡ items_text items ++ rest → rest ≡ item_text item ++ after → bytes ≡ items_text (items ++ item ∷ []) ++ after
+text_push bytes items item rest after text parts =
+    text ∙ ap (λ t. items_text items ++ t) parts ∙ sym (append_assoc (items_text items) (item_text item) after) ∙ ap (λ t. t ++ after) (sym (items_text-push items item))
+
+-- the line after the items so far is the first bad one, where no item that fits stands there
+pub bad_here : (bytes : List ℕ) (items : List Item) (rest : List ℕ) (room : ℕ) → bytes ≡ items_text items ++ rest → AreWithin items → rest ≢ [] → room + length (items_text items) ≡ 16777216
+    → ((item : Item) (after : List ℕ) → IsItem item → length (item_text item) ≤ room → ¬ (rest ≡ item_text item ++ after)) → IsBadAt Means bytes (length items + 1)
+bad_here bytes items rest room text within more counted none = (
+  items_text items,
+  rest,
+  record {
+    text = text;
+    meaning = items;
+    means = record { text = refl; within = within };
+    more = more;
+    bad = λ next after other parts free means.
+        none_next item_text IsItem item_is_line same_item_text AreWithin (λ all sound. sound.each) within_front items rest within
+        (λ item behind is wider.
+        none item behind (All-head IsItem item [] (All-back items (item ∷ []) wider.each))
+        (omega (arith, wider.bytes, ap length (items_text-push items item), length-append (items_text items) (item_text item))) is)
+        next after other parts free means.within means.text;
+  },
+  ap (λ n. n + 1) (sym (lines_of IsItem item_text item_is_line items within.each)),
+)
+
+-- an item has a byte at least
+pub length_items : (items : List Item) → length items ≤ length (items_text items)
+length_items [] = omega arith
+length_items (item ∷ items) = omega (arith, length_items items, item_text-long item, length-append (item_text item) (items_text items))
+
+pub some_left : (rest : List ℕ) (empty : Bool) → empty ≡ (length rest == 0) → empty ≡ false → rest ≢ []
+some_left rest empty is other e = omega (arith, eqb-false (length rest) 0 (sym is ∙ other), ap length e)
 
 nothing : (rest : List ℕ) → length rest ≡ 0 → rest ≡ []
 nothing [] none = refl
 nothing (b ∷ rest) none = absurd (omega arith)
 
 -- the items of a text of which nothing is left
-pub all_read : (bytes : List ℕ) (items : List Item) (rest : List ℕ) → bytes ≡ items_text items ++ rest → All IsItem items → length rest ≡ 0 → Means bytes items
-all_read bytes items rest text each none = record { text = text ∙ ap (λ more. items_text items ++ more) (nothing rest none) ∙ append-nil (items_text items); each = each }
+pub all_read : (bytes : List ℕ) (items : List Item) (rest : List ℕ) → bytes ≡ items_text items ++ rest → AreWithin items → length rest ≡ 0 → Means bytes items
+all_read bytes items rest text within none = record { text = text ∙ ap (λ more. items_text items ++ more) (nothing rest none) ∙ append-nil (items_text items); within = within }

@@ -1,5 +1,5 @@
 -- The text of an item is a line of its words, which no other line is.
-use Rattle.std.proofs.Common.{◌≡◌, ◌≢◌, inl, inr, ℕ, ◌^◌, ◌<◌, Bool, true, false, List, [], ◌∷◌, ◌++◌, length, codes, decimal, Option, Some, None, refl, sym, ap, subst, ◌∙◌, arith, rules, append_assoc}
+use Rattle.std.proofs.Common.{◌+◌, ◌≡◌, ◌≢◌, inl, inr, ℕ, ◌^◌, ◌<◌, Bool, true, false, List, [], ◌∷◌, ◌++◌, length, codes, decimal, Option, Some, None, refl, sym, ap, subst, ◌∙◌, arith, rules, append_assoc}
 use Rattle.std.specs.Prelude.{All, IfSome, slice_index}
 use Rattle.std.specs.Int.{w32, to_be_bytes}
 use Rattle.std.proofs.lemmas.List.Elements.{All-nil, All-cons}
@@ -20,11 +20,13 @@ use Rattle.storage_model.specs.declared.trace.Limit.{Limit}
 use Rattle.storage_model.specs.declared.trace.Limit.TheVariants.{Range, Align}
 use Rattle.storage_model.specs.declared.trace.Item.TheVariants.{Card, Issue, Params, Address, Poll, Phase, Discard, Bus, Flash, Recover, Irq, Done, Read, Sector, Status, Fault, Refused, Cut, Lost, On, Left, Turn, Off}
 use Rattle.text_words.specs.Reads.{Reads}
-use Rattle.text_words.specs.Words.{hex_byte, hex_word, spaced, words_of}
+use Rattle.text_words.specs.Words.{hex_byte, hex_word, is_one_byte, spaced, words_of}
 use Rattle.text_words.proofs.Lines.{IsFree, IsWord, first_part, free_words, line_free, not_free, word_from_test, words_of-words}
 use Rattle.text_words.proofs.Spellings.{byte_word, decimal_word, digits_word}
-use Rattle.trace_text.specs.Trace.{IsBlock, IsItem, IsKind, data_words, end_text, id_text, is_one_byte, item_text, item_words, kept_words, kind_words, letter_text, limit_text, lines_text, why_text}
-use Rattle.trace_text.proofs.ItemWords.{data_digits, data_fill, data_words-some, either}
+use Rattle.trace_text.specs.Trace.{IsBlock, IsItem, IsKind, data_words, end_text, id_text, item_text, item_words, kept_words, kind_words, letter_text, limit_text, lines_text, why_text}
+use Rattle.text_words.proofs.LineTexts.{IsLine, line_is}
+use Rattle.text_words.proofs.Sectors.{either}
+use Rattle.trace_text.proofs.ItemWords.{data_digits, data_fill, data_words-some}
 
 hex_word_word : (n : ℕ) → n < 2 ^ 32 → IsWord (hex_word n)
 hex_word_word n fits = digits_word (to_be_bytes w32 n) (search rules)
@@ -165,3 +167,12 @@ no_item item text after free is =
 pub item_text-long : (item : Item) → 0 < length (item_text item)
 unfolding item_text
 item_text-long item = omega (arith, length-append {A = ℕ})
+
+-- its words and a line feed
+pub item_text-length : (item : Item) → length (item_text item) ≡ length (spaced (item_words item)) + 1
+unfolding item_text
+item_text-length item = length-append (spaced (item_words item)) (codes "\n")
+
+pub item_is_line : (item : Item) → IsItem item → IsLine (item_text item)
+unfolding item_text
+item_is_line item valid = line_is (item_words item) (item_words-plain item valid)

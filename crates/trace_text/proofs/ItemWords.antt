@@ -1,5 +1,5 @@
 -- The words of a line determine its item, and it determines them.
-use Rattle.std.proofs.Common.{◌≡◌, ◌≢◌, ◌⊎◌, inl, inr, ℕ, zero, suc, ◌^◌, ◌<◌, Bool, true, false, List, [], ◌∷◌, length, codes, decimal, Option, Some, None, refl, sym, ap, ◌∙◌, arith}
+use Rattle.std.proofs.Common.{◌≡◌, ◌≢◌, inl, inr, ℕ, zero, suc, ◌^◌, ◌<◌, Bool, true, false, List, [], ◌∷◌, length, codes, decimal, Option, Some, None, refl, sym, ap, ◌∙◌, arith}
 use Rattle.std.specs.Prelude.{IfSome, slice_index, ◌==◌, if◌then◌else◌}
 use Rattle.std.specs.Str.{bytes_eq}
 use Rattle.std.specs.List.{list_all}
@@ -20,36 +20,26 @@ use Rattle.storage_model.specs.declared.trace.End.{End}
 use Rattle.storage_model.specs.declared.trace.Why.{Why}
 use Rattle.storage_model.specs.declared.trace.Item.{Item}
 use Rattle.storage_model.specs.declared.trace.Limit.{Limit}
-use Rattle.storage_model.specs.declared.trace.Limit.TheVariants.{Range, Align}
 use Rattle.storage_model.specs.declared.trace.Item.TheVariants.{Card, Issue, Params, Address, Poll, Phase, Discard, Bus, Flash, Recover, Irq, Done, Read, Sector, Status, Fault, Refused, Cut, Lost, On, Left, Turn, Off}
-use Rattle.text_words.specs.Words.{hex_byte, hex_word}
+use Rattle.text_words.specs.Words.{hex_byte, hex_word, is_one_byte}
+use Rattle.text_words.proofs.Sectors.{bytes_digits, bytes_fill, bytes_words-some, either}
 use Rattle.text_words.proofs.Spellings.{decimal_low}
 use Rattle.trace_text.specs.declared.keyword.Keyword.{Keyword}
 use Rattle.trace_text.specs.declared.keyword.Keyword.TheVariants.{Card as CardWord, Issue as IssueWord, Params as ParamsWord, Address as AddressWord, Poll as PollWord, Phase as PhaseWord, Discard as DiscardWord, Bus as BusWord, Flash as FlashWord, Recover as RecoverWord, Irq as IrqWord, Cut as CutWord, On as OnWord, Left as LeftWord, Turn as TurnWord, Off as OffWord}
 use Rattle.trace_text.specs.declared.keyword.Outcome.{Outcome}
 use Rattle.trace_text.specs.declared.keyword.Outcome.TheVariants.{Done as DoneOutcome, Read as ReadOutcome, Status as StatusOutcome, Fault as FaultOutcome, Refused as RefusedOutcome, Lost as LostOutcome}
 use Rattle.trace_text.specs.Names.{keyword_text, outcome_text}
-use Rattle.trace_text.specs.Trace.{IsBlock, IsItem, IsKind, data_words, end_text, id_text, is_one_byte, item_words, kept_words, kind_words, letter_text, limit_text, lines_text, why_text}
+use Rattle.trace_text.specs.Trace.{IsBlock, IsItem, IsKind, data_words, end_text, id_text, item_words, kept_words, kind_words, letter_text, limit_text, lines_text, why_text}
 
 -- a sector's words are `fill` and a byte, or one word of digits
 pub data_fill : (value : Block) → is_one_byte value.0 ≡ true → data_words value ≡ codes "fill" ∷ hex_byte (slice_index value.0 0) ∷ []
-unfolding data_words
-data_fill value same = rw same refl
+data_fill value same = bytes_fill value.0 same
 
 pub data_digits : (value : Block) → is_one_byte value.0 ≡ false → data_words value ≡ encode_lower value.0 ∷ []
-unfolding data_words
-data_digits value other = rw other refl
-
-pub either : (b : Bool) → (b ≡ true) ⊎ (b ≡ false)
-either true = inl refl
-either false = inr refl
+data_digits value other = bytes_digits value.0 other
 
 pub data_words-some : (value : Block) → data_words value ≢ []
-data_words-some value none =
-    elim (either (is_one_byte value.0)) [
-      | inl same ↦ (let words = data_fill value same in cc)
-      | inr other ↦ (let words = data_digits value other in cc)
-    ]
+data_words-some value none = bytes_words-some value.0 none
 
 -- the word that names an item
 abbrev pub name_of : Item → Option Keyword

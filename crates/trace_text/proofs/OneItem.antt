@@ -20,15 +20,16 @@ use Rattle.storage_model.specs.declared.trace.Item.{Item}
 use Rattle.storage_model.specs.declared.trace.Limit.{Limit}
 use Rattle.storage_model.specs.declared.trace.Limit.TheVariants.{Range, Align}
 use Rattle.storage_model.specs.declared.trace.Item.TheVariants.{Card, Issue, Params, Address, Poll, Phase, Discard, Bus, Flash, Recover, Irq, Done, Read, Sector, Status, Fault, Refused, Cut, Lost, On, Left, Turn, Off}
-use Rattle.text_words.specs.Words.{hex_word, spaced}
+use Rattle.text_words.specs.Words.{hex_word, is_one_byte, spaced}
 use Rattle.text_words.proofs.Bytes.{encode_lower-injective, hex_byte-injective}
 use Rattle.text_words.proofs.Lines.{line_free}
 use Rattle.text_words.proofs.Spellings.{decimal_high, decimal_low}
 use Rattle.trace_text.specs.declared.keyword.Keyword.TheVariants.{Card as CardWord, Issue as IssueWord, Params as ParamsWord, Address as AddressWord, Poll as PollWord, Phase as PhaseWord, Discard as DiscardWord, Bus as BusWord, Flash as FlashWord, Recover as RecoverWord, Irq as IrqWord, Cut as CutWord, On as OnWord, Left as LeftWord, Turn as TurnWord, Off as OffWord}
 use Rattle.trace_text.specs.declared.keyword.Outcome.TheVariants.{Done as DoneOutcome, Read as ReadOutcome, Status as StatusOutcome, Fault as FaultOutcome, Refused as RefusedOutcome, Lost as LostOutcome}
 use Rattle.trace_text.specs.Names.{keyword_text}
-use Rattle.trace_text.specs.Trace.{IsBlock, IsItem, IsKind, data_words, end_text, id_text, is_one_byte, item_text, item_words, kept_words, kind_words, letter_text, limit_text, lines_text, why_text}
-use Rattle.trace_text.proofs.ItemWords.{answers, data_digits, data_fill, decimal_not_fill, decimal_short, either, name, named, no_data}
+use Rattle.trace_text.specs.Trace.{IsBlock, IsItem, IsKind, data_words, end_text, id_text, item_text, item_words, kept_words, kind_words, letter_text, limit_text, lines_text, why_text}
+use Rattle.text_words.proofs.Sectors.{either}
+use Rattle.trace_text.proofs.ItemWords.{answers, data_digits, data_fill, decimal_not_fill, decimal_short, name, named, no_data}
 use Rattle.trace_text.proofs.ItemTexts.{item_line, item_text-line, item_words-plain, words_from_line, words_of-item}
 
 same_hex : (m n : ℕ) → m < 2 ^ 32 → n < 2 ^ 32 → hex_word m ≡ hex_word n → m ≡ n

@@ -1,3 +1,2 @@
-pub mod Line
 pub mod Names
 pub mod Trace

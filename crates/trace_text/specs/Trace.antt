@@ -1,8 +1,8 @@
 -- The one text of each line of a trace: words parted by single spaces, and a line feed.
-use Rattle.std.specs.Prelude.{◌==◌, ◌≡◌, ◌≢◌, ℕ, ◌+◌, ◌^◌, ◌<◌, Bool, true, false, if◌then◌else◌, List, [], ◌∷◌, ◌++◌, Option, Some, None, IfSome, All, length, min, slice_index, flat_map, codes, decimal}
-use Rattle.std.specs.List.{list_all}
-use Rattle.hex.specs.Hex.{IsBytes, encode_lower}
-use Rattle.text_words.specs.Words.{line, hex_byte, hex_word}
+use Rattle.std.specs.Prelude.{◌≡◌, ℕ, ◌^◌, ◌<◌, ◌≤◌, Bool, true, false, List, [], ◌∷◌, Option, Some, None, IfSome, All, length, flat_map, codes, decimal}
+use Rattle.hex.specs.Hex.{IsBytes}
+use Rattle.text_words.specs.Texts.{IsBadAt}
+use Rattle.text_words.specs.Words.{bytes_words, line, hex_word}
 use Rattle.storage_model.specs.declared.block.Block.{Block}
 use Rattle.storage_model.specs.declared.ends.TextEnd.{TextEnd}
 use Rattle.storage_model.specs.declared.ends.TextEnd.TheVariants.{Bad as BadLine, NoMemory}
@@ -19,13 +19,9 @@ use Rattle.storage_model.specs.declared.trace.Why.TheVariants.{Bus as BusFault, 
 use Rattle.storage_model.specs.declared.trace.Item.{Item}
 use Rattle.storage_model.specs.declared.trace.Item.TheVariants.{Card, Issue, Params, Address, Poll, Phase, Discard, Bus, Flash, Recover, Irq, Done, Read, Sector, Status, Fault, Refused, Cut, Lost, On, Left, Turn, Off}
 
--- whether all bytes equal the first
-abbrev pub is_one_byte : List ℕ → Bool
-is_one_byte bytes = list_all (λ byte. byte == slice_index bytes 0) bytes
-
--- `fill` and the byte, or all digits
-unfoldable pub data_words : Block → List (List ℕ)
-data_words value = if is_one_byte value.0 then codes "fill" ∷ hex_byte (slice_index value.0 0) ∷ [] else encode_lower value.0 ∷ []
+-- a sector's bytes: `fill` and the byte where all are equal, else all digits
+abbrev pub data_words : Block → List (List ℕ)
+data_words value = bytes_words value.0
 
 abbrev pub lines_text : Option ℕ → List ℕ
 lines_text (Some lines) = decimal lines
@@ -136,23 +132,17 @@ IsItem (Left sector value) = (sector < 2 ^ 32) × IsBlock value
 IsItem (Turn letter) = Unit {0}
 IsItem (Off end) = Unit {0}
 
+-- items that one text can have, in 16 MiB
+pub record AreWithin (items : List Item) : Type 0 where
+  pub each : All IsItem items
+  pub bytes : length (items_text items) ≤ 16777216
+
 -- the text means these items
 pub record Means (bytes : List ℕ) (items : List Item) : Type 0 where
   pub text : bytes ≡ items_text items
-  pub each : All IsItem items
-
--- the first bad line: items stand before it, and no item's text begins the rest
-pub record IsBadAfter (bytes : List ℕ) (good : List Item) (rest : List ℕ) : Type 0 where
-  pub text : bytes ≡ items_text good ++ rest
-  pub each : All IsItem good
-  pub more : rest ≢ []
-  pub bad : (item : Item) (after : List ℕ) → IsItem item → ¬ (rest ≡ item_text item ++ after)
-
--- its number, counted from 1. A number past 32 bits stands at the last of them
-abbrev pub IsBadAt : List ℕ → ℕ → Type 0
-IsBadAt bytes number = (good : List Item) × (rest : List ℕ) × IsBadAfter bytes good rest × (number ≡ min (length good + 1) 4294967295)
+  pub within : AreWithin items
 
 -- why a text is refused: at its first bad line. Want of memory has no cause in the text
 abbrev pub IsRefused : List ℕ → TextEnd → Type 0
-IsRefused bytes (BadLine number) = IsBadAt bytes number
+IsRefused bytes (BadLine number) = IsBadAt Means bytes number
 IsRefused bytes NoMemory = Unit {0}

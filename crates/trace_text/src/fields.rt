@@ -4,10 +4,9 @@ ghost use Rattle.text_words.specs.Reads.{Reads};
 ghost use Rattle.text_words.specs.Words.{hex_byte, hex_word};
 ghost use Rattle.trace_text.specs.Trace.{IsBlock, IsKind, data_words, end_text, id_text, kept_words, kind_words, letter_text, limit_text, lines_text, why_text};
 
-use crate::line::one_byte;
 use storage_model::{Block, BusKind, End, Letter, Limit, Why};
 use text_words::{
-    Words, read_decimal, read_decimal_in, read_hex_byte, read_hex_bytes, read_hex_word,
+    Words, one_byte, read_decimal, read_decimal_in, read_hex_byte, read_hex_bytes, read_hex_word,
 };
 
 pub fn number(mut words: Words) -> Option<u32>
@@ -303,7 +302,7 @@ fn digits(word: &[u8], words: Words) -> Option<Block>
 {
     words.end()?;
     let value = Block(read_hex_bytes(word)?);
-    if one_byte(&value) {
+    if one_byte(&value.0) {
         return None;
     }
     Some(value)

@@ -4,9 +4,8 @@
 mod fields;
 mod item;
 mod keyword;
-mod line;
 mod read;
 mod write;
 
-pub use read::read_items;
+pub use read::{MAX_BYTES, next_item, read_items};
 pub use write::put_item;
