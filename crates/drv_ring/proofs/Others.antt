@@ -8,18 +8,19 @@ use Rattle.storage_model.specs.declared.plan.Job.{Job}
 use Rattle.storage_model.specs.declared.plan.Job.TheVariants.{Read, Write, Flush, Barrier, Status}
 use Rattle.cq_desc.specs.Task.{task_read}
 use Rattle.cq_desc.specs.Direct.{direct_read}
+use Rattle.cq_desc.specs.declared.xfer.Xfer.TheVariants.{Link}
 use Rattle.cq_chain.specs.declared.pieces.Piece.{Piece}
 use Rattle.cq_chain.specs.Descriptors.{word_at, size_of as descriptor_size}
 use Rattle.cq_task.specs.Place.{place_of, chain_of}
 use Rattle.piece_data.specs.Data.{block_of}
 use Rattle.piece_data.specs.Laws.{HasSameSpace, IsApart, KeepsOthers}
 use Rattle.drv_ring.specs.declared.places.Layout.{Layout}
-use Rattle.drv_ring.specs.Layout.{list_of, table_at, block_place, HasLayout, IsTagOf}
+use Rattle.drv_ring.specs.Layout.{list_of, chunk_at, link_at, row_at, table_at, block_place, HasLayout, IsTagOf}
 use Rattle.drv_ring.specs.Pieces.{tag_pieces}
 use Rattle.drv_ring.specs.Asks.{Asks, HasBlocks, HasChain, HasRest, transfer_at}
 use Rattle.drv_ring.specs.Changes.{KeepsTag, area, areas_of, slot_area, table_area}
 use Rattle.drv_ring.proofs.Changed.{word-same, reads-kept}
-use Rattle.drv_ring.proofs.Inside.{layout-same_space, slot-inside, table-inside, part-of, shape, slot-ends, size-some, row-ends}
+use Rattle.drv_ring.proofs.Inside.{layout-same_space, slot-inside, table-inside, part-of, shape, slot-ends, size-some, row-ends, link-ends}
 use Rattle.drv_ring.proofs.Pieced.{block_of-pieces}
 use Rattle.drv_ring.proofs.Scattered.{block-held, low-apart, block-apart}
 use Rattle.drv_ring.proofs.Meant.{HasWord, asks-from, asks-word}
@@ -28,16 +29,21 @@ use Rattle.drv_ring.proofs.Meant.{HasWord, asks-from, asks-word}
 pub record SameWords (layout : Layout) (tag : ℕ) (old new : Memory) : Type 0 where
   pub first : word_at new (place_of (list_of layout) tag) ≡ word_at old (place_of (list_of layout) tag)
   pub second : bytes_of new (chain_of (list_of layout) tag) (descriptor_size layout.wide) ≡ bytes_of old (chain_of (list_of layout) tag) (descriptor_size layout.wide)
-  pub table : tag < layout.depth → (k : ℕ) → k < 256
-      → bytes_of new (table_at layout tag + descriptor_size layout.wide * k) (descriptor_size layout.wide)
-      ≡ bytes_of old (table_at layout tag + descriptor_size layout.wide * k) (descriptor_size layout.wide)
+  pub table : tag < layout.depth → (at n : ℕ) → table_at layout tag ≤ at → at + n ≤ table_at layout tag + 4096
+      → bytes_of new at n ≡ bytes_of old at n
 
 chain-kept : (layout : Layout) (tag blocks : ℕ) (old new : Memory) → HasSameSpace old new → SameWords layout tag old new
     → tag < layout.depth → blocks ≤ 1024 → HasChain old layout tag blocks → HasChain new layout tag blocks
 chain-kept layout tag blocks old new space same lt few chain = record {
   link = reads-kept layout.wide old new (chain_of (list_of layout) tag) _ space same.second chain.link;
   transfers = λ k less.
-      reads-kept layout.wide old new (table_at layout tag + descriptor_size layout.wide * k) (Ok (transfer_at layout tag blocks k)) space (same.table lt k (omega arith)) (chain.transfers k less);
+      let ends = row-ends layout tag k (omega arith) in
+      reads-kept layout.wide old new (row_at layout tag k) (Ok (transfer_at layout tag blocks k)) space
+      (same.table lt (row_at layout tag k) (descriptor_size layout.wide) (omega arith) ends) (chain.transfers k less);
+  links = λ c less.
+      let ends = link-ends layout tag c (omega arith) in
+      reads-kept layout.wide old new (link_at layout tag c) (Ok (Link (chunk_at layout tag (c + 1)))) space
+      (same.table lt (link_at layout tag c) (descriptor_size layout.wide) (omega arith) ends) (chain.links c less);
 }
 
 word-kept : (layout : Layout) (tag : ℕ) (job : Job) (int : Bool) (old new : Memory) → SameWords layout tag old new
@@ -162,9 +168,7 @@ others-kept layout tag other job old new writes lt apart =
       first = word-same old new at (ap (λ p. bytes_of new p 8) (sym same) ∙ slot-bytes layout tag other 0 8 job old new writes lt apart (omega arith)
           ∙ ap (λ p. bytes_of old p 8) same);
       second = slot-bytes layout tag other size size job old new writes lt apart (omega arith);
-      table = λ less k within.
-          let ends = row-ends layout k within in
-          table-bytes layout tag other (table_at layout other + size * k) size job old new writes less apart (omega arith) (omega arith);
+      table = λ less at n low high. table-bytes layout tag other at n job old new writes less apart low high;
     } in
     record {
       job = λ kept int asks. asks-kept layout other kept int old new writes.held writes.space words asks;

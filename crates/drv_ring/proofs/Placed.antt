@@ -13,7 +13,7 @@ use Rattle.piece_data.specs.Data.{block_of}
 use Rattle.piece_data.specs.Laws.{HasSameSpace, IsApart, KeepsOthers}
 use Rattle.piece_data.proofs.Kept.{range-same_space}
 use Rattle.drv_ring.specs.declared.places.Layout.{Layout}
-use Rattle.drv_ring.specs.Layout.{list_of, table_at, block_place, HasLayout}
+use Rattle.drv_ring.specs.Layout.{list_of, chunk_at, link_at, row_at, table_at, block_place, HasLayout}
 use Rattle.drv_ring.specs.Pieces.{piece_count, tag_pieces}
 use Rattle.drv_ring.specs.Asks.{HasChain, transfer_at}
 use Rattle.drv_ring.specs.Changes.{ChangesAmong, ChangesWithin, area, slot_area, table_area}
@@ -63,14 +63,16 @@ placed-word layout tag old new held lt change =
 pub placed-chain : (layout : Layout) (tag blocks : ℕ) (old new : Memory) → HasLayout old layout → tag < layout.depth
     → Reads old layout.wide (chain_of (list_of layout) tag) (Ok (Link (table_at layout tag)))
     → ((k : ℕ) → k < piece_count blocks
-    → Reads new layout.wide (table_at layout tag + descriptor_size layout.wide * k) (Ok (transfer_at layout tag blocks k)))
+    → Reads new layout.wide (row_at layout tag k) (Ok (transfer_at layout tag blocks k)))
+    → ((c : ℕ) → 32 * (c + 1) < piece_count blocks → Reads new layout.wide (link_at layout tag c) (Ok (Link (chunk_at layout tag (c + 1)))))
     → ChangesWithin (table_area layout tag) old new → HasChain new layout tag blocks
-placed-chain layout tag blocks old new held lt link rows change =
+placed-chain layout tag blocks old new held lt link rows links change =
     let at = chain_of (list_of layout) tag in
     record {
       link = reads-kept layout.wide old new at (Ok (Link (table_at layout tag))) change.space
           (slot-bytes layout tag at (descriptor_size layout.wide) old new held lt change (omega arith) (omega arith)) link;
       transfers = rows;
+      links = links;
     }
 
 pub placed-outside : (layout : Layout) (tag : ℕ) (old middle new : Memory) → ChangesWithin (slot_area layout tag) old middle

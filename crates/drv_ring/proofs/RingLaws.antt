@@ -18,7 +18,7 @@ use Rattle.drv_ring.specs.Pieces.{tag_pieces}
 use Rattle.drv_ring.specs.Asks.{Asks, HasBlocks, HoldsData}
 use Rattle.drv_ring.specs.Changes.{ChangesAmong, KeepsTag, area, slot_area, table_area}
 use Rattle.drv_ring.proofs.Changed.{word-same}
-use Rattle.drv_ring.proofs.Inside.{slot-inside, table-inside, part-of, slot-ends, size-some, row-ends}
+use Rattle.drv_ring.proofs.Inside.{slot-inside, table-inside, part-of, slot-ends, size-some}
 use Rattle.drv_ring.proofs.Scattered.{low-apart}
 use Rattle.drv_ring.proofs.Others.{SameWords, asks-kept, others-kept}
 
@@ -47,10 +47,7 @@ same-words layout tag other blocks old new held lt change =
     record {
       first = word-same old new at (low-bytes layout tag blocks at 8 old new change (part-of old at (2 * size) at 8 slot (omega arith) (omega arith)) (omega arith));
       second = low-bytes layout tag blocks chain size old new change (part-of old at (2 * size) chain size slot (omega arith) (omega arith)) (omega arith);
-      table = λ low k less.
-          let row = table_at layout other + size * k in
-          let last = row-ends layout k less in
-          low-bytes layout tag blocks row size old new change (table-inside old layout other row size held low (omega arith) (omega arith)) (omega arith);
+      table = λ low place n from upto. low-bytes layout tag blocks place n old new change (table-inside old layout other place n held low from upto) (omega arith);
     }
 
 -- a change within a tag's pieces leaves what every slot asks for, its own too

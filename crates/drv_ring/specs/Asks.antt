@@ -13,7 +13,7 @@ use Rattle.cq_task.specs.Meaning.{Means}
 use Rattle.piece_data.specs.Data.{block_of}
 use Rattle.drv_ring.specs.declared.places.Layout.{Layout}
 use Rattle.drv_ring.specs.declared.places.TheConstants.{MOST_BLOCKS}
-use Rattle.drv_ring.specs.Layout.{list_of, table_at, IsTagOf}
+use Rattle.drv_ring.specs.Layout.{list_of, chunk_at, link_at, row_at, table_at, IsTagOf}
 use Rattle.drv_ring.specs.Pieces.{piece_count, piece_at, tag_pieces}
 use Rattle.drv_ring.specs.Task.{task_of}
 
@@ -22,11 +22,13 @@ abbrev pub transfer_at : Layout → (tag blocks k : ℕ) → Xfer
 transfer_at layout tag blocks k =
     let piece = piece_at layout tag blocks k in Transfer (k + 1 == piece_count blocks) false piece.len piece.at
 
--- the second half of the slot is a link to the tag's table, which has the descriptors of the pieces in order
+-- the second half of the slot is a link to the tag's table, which has the descriptors of the pieces in order, in chunks of 32;
+-- where pieces remain, a link to the next chunk follows them
 -- (cqhci_prep_tran_desc and setup_trans_desc of the Linux driver's cqhci-core.c)
 pub record HasChain (memory : Memory) (layout : Layout) (tag blocks : ℕ) : Type 0 where
   pub link : Reads memory layout.wide (chain_of (list_of layout) tag) (Ok (Link (table_at layout tag)))
-  pub transfers : (k : ℕ) → k < piece_count blocks → Reads memory layout.wide (table_at layout tag + descriptor_size layout.wide * k) (Ok (transfer_at layout tag blocks k))
+  pub transfers : (k : ℕ) → k < piece_count blocks → Reads memory layout.wide (row_at layout tag k) (Ok (transfer_at layout tag blocks k))
+  pub links : (c : ℕ) → 32 * (c + 1) < piece_count blocks → Reads memory layout.wide (link_at layout tag c) (Ok (Link (chunk_at layout tag (c + 1))))
 
 -- behind a direct command the slot's bytes are 0
 abbrev pub HasNothing : Memory → Layout → (tag : ℕ) → Type 0

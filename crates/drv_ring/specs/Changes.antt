@@ -1,5 +1,5 @@
 -- What a call changes of the memory, and what it leaves.
-use Rattle.std.specs.Prelude.{◌≡◌, ◌<◌, ◌≤◌, ℕ, ◌*◌, Bool, List, [], ◌∷◌}
+use Rattle.std.specs.Prelude.{◌≡◌, ◌<◌, ◌≤◌, ℕ, ◌+◌, ◌-◌, ◌*◌, Bool, List, [], ◌∷◌}
 use Rattle.host_mem.specs.Memory.{Memory}
 use Rattle.storage_model.specs.declared.plan.Job.{Job}
 use Rattle.storage_model.specs.declared.plan.Job.TheVariants.{Read, Write}
@@ -10,7 +10,7 @@ use Rattle.piece_data.specs.Data.{block_of}
 use Rattle.piece_data.specs.Laws.{HasSameSpace, KeepsOthers}
 use Rattle.drv_ring.specs.declared.places.Layout.{Layout}
 use Rattle.drv_ring.specs.declared.places.TheConstants.{MOST_BLOCKS, TABLE_BYTES}
-use Rattle.drv_ring.specs.Layout.{list_of, table_at}
+use Rattle.drv_ring.specs.Layout.{list_of, row_at, table_at}
 use Rattle.drv_ring.specs.Pieces.{tag_pieces}
 use Rattle.drv_ring.specs.Asks.{Asks}
 
@@ -32,6 +32,11 @@ slot_area layout tag = area (place_of (list_of layout) tag) (2 * descriptor_size
 
 abbrev pub table_area : Layout → ℕ → Piece
 table_area layout tag = area (table_at layout tag) TABLE_BYTES
+
+-- what stands between the descriptor of the piece before piece k and that of piece k: a link, or nothing
+abbrev pub gap_area : Layout → (tag k : ℕ) → Piece
+gap_area layout tag k =
+    let from = row_at layout tag (k - 1) + descriptor_size layout.wide in area from (row_at layout tag k - from)
 
 -- where the bytes of a job stand: a read finds the pieces of its data as they are
 abbrev pub areas_of : Layout → ℕ → Job → List Piece

@@ -5,10 +5,11 @@ use Rattle.std.specs.Prelude.{◌<◌, ◌≤◌, ◌≡◌, ◌^◌, ℕ, ◌+�
 use Rattle.host_mem.specs.Memory.{Memory, HasRange}
 use Rattle.storage_model.specs.declared.plan.Job.{Job}
 use Rattle.storage_model.specs.declared.plan.Job.TheVariants.{Read, Write, Flush, Barrier, Status}
+use Rattle.cq_chain.specs.Descriptors.{size_of as descriptor_size}
 use Rattle.cq_task.specs.declared.list.TaskList.{TaskList}
 use Rattle.cq_task.specs.declared.list.TheConstants.{DIRECT_SLOT}
 use Rattle.drv_ring.specs.declared.places.Layout.{Layout}
-use Rattle.drv_ring.specs.declared.places.TheConstants.{MOST_DEPTH, FIRST_TABLE, TABLE_BYTES, FIRST_PIECE, PIECE_BYTES, TAG_BYTES}
+use Rattle.drv_ring.specs.declared.places.TheConstants.{MOST_DEPTH, FIRST_TABLE, TABLE_BYTES, CHUNK_BYTES, FIRST_PIECE, PIECE_BYTES, TAG_BYTES}
 
 -- the list of the slots, with direct commands in slot 31
 abbrev pub list_of : Layout → TaskList
@@ -17,6 +18,18 @@ list_of layout = record { base = layout.base; wide = layout.wide; direct = true 
 -- the transfer descriptors of a tag
 abbrev pub table_at : Layout → ℕ → ℕ
 table_at layout tag = layout.base + FIRST_TABLE + TABLE_BYTES * tag
+
+-- chunk c of a tag's table
+abbrev pub chunk_at : Layout → (tag c : ℕ) → ℕ
+chunk_at layout tag c = table_at layout tag + CHUNK_BYTES * c
+
+-- the descriptor of piece k: a chunk has those of 32 pieces
+abbrev pub row_at : Layout → (tag k : ℕ) → ℕ
+row_at layout tag k = chunk_at layout tag (k / 32) + descriptor_size layout.wide * (k % 32)
+
+-- behind them stands the link to the next chunk
+abbrev pub link_at : Layout → (tag c : ℕ) → ℕ
+link_at layout tag c = chunk_at layout tag c + descriptor_size layout.wide * 32
 
 -- piece k of a tag's data: first the pieces 0 of all tags, then the pieces 1, and so on
 abbrev pub piece_place : Layout → (tag k : ℕ) → ℕ

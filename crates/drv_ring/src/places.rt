@@ -1,7 +1,7 @@
 ghost use Rattle.std.specs.Prelude.{◌≡◌, ◌+◌, ◌*◌, ◌<◌, ◌≤◌, ◌^◌};
 ghost use Rattle.cq_chain.specs.Descriptors.{size_of as descriptor_size};
 ghost use Rattle.cq_task.specs.Place.{place_of};
-ghost use Rattle.drv_ring.specs.Layout.{HasAddresses, list_of, piece_place, size_of, table_at};
+ghost use Rattle.drv_ring.specs.Layout.{HasAddresses, chunk_at, list_of, piece_place, row_at, size_of, table_at};
 
 use cq_task::{SLOTS, TaskList};
 
@@ -13,6 +13,12 @@ pub const MOST_BLOCKS: u16 = 1024;
 
 /// How far the first table of transfer descriptors is from the base.
 pub const FIRST_TABLE: u64 = 1024;
+
+/// The bytes between the starts of two chunks of a table.
+pub const CHUNK_BYTES: u64 = 1024;
+
+/// The transfer descriptors of a chunk.
+pub const CHUNK_ROWS: u8 = 32;
 
 /// The bytes of a table.
 pub const TABLE_BYTES: u64 = 4096;
@@ -88,6 +94,26 @@ impl Layout {
         ensures { result ≡ table_at self.now tag }
     {
         self.base + FIRST_TABLE + TABLE_BYTES * u64::from(tag)
+    }
+
+    /// The address of a chunk of a tag's table.
+    pub(crate) fn chunk_at(&self, tag: u8, chunk: u8) -> u64
+        requires room { HasAddresses self.now }
+        requires tag { tag < self.now.depth }
+        requires within { chunk < 4 }
+        ensures { result ≡ chunk_at self.now tag chunk }
+    {
+        self.table_at(tag) + CHUNK_BYTES * u64::from(chunk)
+    }
+
+    /// The address of the descriptor of piece `k`.
+    pub(crate) fn row_at(&self, tag: u8, k: u8) -> u64
+        requires room { HasAddresses self.now }
+        requires tag { tag < self.now.depth }
+        requires within { k < 128 }
+        ensures { result ≡ row_at self.now tag k }
+    {
+        self.chunk_at(tag, k / CHUNK_ROWS) + self.descriptor_size() * u64::from(k % CHUNK_ROWS)
     }
 
     /// The address of piece `k` of a tag's data: first come the pieces 0 of all tags, then the pieces 1, and so on.

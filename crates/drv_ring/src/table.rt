@@ -1,13 +1,14 @@
 // The chain of a tag: its table of transfer descriptors.
 ghost use Rattle.std.specs.Prelude.{◌≡◌, ◌+◌, ◌*◌, ◌<◌, ◌≤◌, ◌^◌, ℕ, Ok};
-ghost use Rattle.cq_chain.specs.Descriptors.{Reads, size_of as descriptor_size};
-ghost use Rattle.drv_ring.specs.Layout.{HasAddresses, HasLayout, table_at};
+ghost use Rattle.cq_desc.specs.declared.xfer.Xfer.TheVariants.{Link};
+ghost use Rattle.cq_chain.specs.Descriptors.{Reads};
+ghost use Rattle.drv_ring.specs.Layout.{HasAddresses, HasLayout, chunk_at, link_at, row_at};
 ghost use Rattle.drv_ring.specs.Pieces.{piece_at, piece_count};
 ghost use Rattle.drv_ring.specs.Asks.{transfer_at};
-ghost use Rattle.drv_ring.specs.Changes.{ChangesWithin, table_area};
+ghost use Rattle.drv_ring.specs.Changes.{ChangesWithin, gap_area, table_area};
 
 use crate::Layout;
-use crate::places::{MOST_BLOCKS, PIECE_BYTES};
+use crate::places::{CHUNK_ROWS, MOST_BLOCKS, PIECE_BYTES};
 use crate::words::write_descriptor;
 use cq_chain::Piece;
 use cq_desc::Xfer;
@@ -58,14 +59,35 @@ impl Layout {
         requires layout { HasLayout mem.old self.now }
         requires tag { tag < self.now.depth }
         requires blocks { blocks ≤ MOST_BLOCKS }
-        ensures written { (k : ℕ) → k < piece_count blocks → Reads mem.new self.now.wide (table_at self.now tag + descriptor_size self.now.wide * k) (Ok (transfer_at self.now tag blocks k)) }
+        ensures written { (k : ℕ) → k < piece_count blocks → Reads mem.new self.now.wide (row_at self.now tag k) (Ok (transfer_at self.now tag blocks k)) }
+        ensures links { (c : ℕ) → 32 * (c + 1) < piece_count blocks → Reads mem.new self.now.wide (link_at self.now tag c) (Ok (Link (chunk_at self.now tag (c + 1)))) }
         ensures within { ChangesWithin (table_area self.now tag) mem.old mem.new }
     {
-        let table = self.table_at(tag);
-        let size = self.descriptor_size();
         for k in 0..piece_count(blocks) {
+            self.write_link(mem, tag, k as u8);
             let xfer = self.transfer_at(tag, blocks, k);
-            write_descriptor(mem, table + size * u64::from(k), &xfer, self.wide);
+            write_descriptor(mem, self.row_at(tag, k as u8), &xfer, self.wide);
         }
+    }
+
+    /// Writes the link that stands in front of the descriptor of piece `k`, where a chunk begins with it.
+    fn write_link(&self, mem: &mut HostMem, tag: u8, k: u8)
+        requires layout { HasLayout mem.old self.now }
+        requires tag { tag < self.now.depth }
+        requires within { k < 128 }
+        ensures links { (c : ℕ) → 32 * (c + 1) ≡ k → Reads mem.new self.now.wide (link_at self.now tag c) (Ok (Link (chunk_at self.now tag (c + 1)))) }
+        ensures within { ChangesWithin (gap_area self.now tag k) mem.old mem.new }
+    {
+        if k == 0 {
+            return;
+        }
+        if k % CHUNK_ROWS != 0 {
+            return;
+        }
+        let link = Xfer::Link {
+            at: self.chunk_at(tag, k / CHUNK_ROWS),
+        };
+        let at = self.row_at(tag, k - 1) + self.descriptor_size();
+        write_descriptor(mem, at, &link, self.wide);
     }
 }

@@ -16,7 +16,7 @@ returns-clause-chain c =
     let slot = c.write_data_slot in
     let held = layout-same_space c.args.mem.now slot.new.mem c.args.self.now slot.ensures.within.space c.requires.layout in
     placed-chain c.args.self.now c.args.tag c.args.desc.now.blocks slot.new.mem c.write_table.new.mem held c.requires.tag
-    slot.ensures.link c.write_table.ensures.written c.write_table.ensures.within
+    slot.ensures.link c.write_table.ensures.written c.write_table.ensures.links c.write_table.ensures.within
 
 pub returns-clause-outside : goal.returns-clause-outside
 returns-clause-outside c =
