@@ -2,13 +2,9 @@
 #![tactic(auto)]
 
 mod bytes;
-mod line;
 mod raw_line;
 mod write;
 
 pub use bytes::Peeked;
 pub use raw_line::RawLine;
 pub use write::put_raw_line;
-
-#[cfg(test)]
-mod tests;

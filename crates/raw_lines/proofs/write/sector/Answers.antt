@@ -7,4 +7,4 @@ use Rattle.raw_lines.proofs.write.sector.Goals as goal
 pub returns-clause-text : goal.returns-clause-text
 returns-clause-text c =
     let more = spaced-more (codes "s") (data_words c.args.value.now) (data_words-some c.args.value.now) in
-    rw more (rw (c.data.ensures.text, c.of-line.ensures.text) refl)
+    rw more (rw (c.data.ensures.text, c.begin.ensures.text) refl)
