@@ -18,6 +18,7 @@ use Rattle.fault_text.specs.declared.line.FaultLine.TheVariants.{Ready, Bus, Pro
 use Rattle.storage_model.specs.Faults.{IsKind}
 use Rattle.fault_text.specs.Lines.{IsLine, fault_word, keyword_text, kind_words, letter_byte, line_text, line_words}
 use Rattle.text_words.specs.HexNumber.{hex_number}
+use Rattle.text_words.proofs.LineTexts.{IsLine as IsWholeLine, line_is}
 use Rattle.text_words.proofs.HexNumbers.{hex_number-injective, number_word}
 use Rattle.fault_text.proofs.Letters.{letters_word, same_letters}
 
@@ -212,3 +213,8 @@ pub reads_ok : {E : Type 0} (text first : List ℕ) (words : List (List ℕ)) (r
     → IfOk result (λ read. Reads read (λ fault. IsLine fault × (first ∷ words ≡ line_words fault))) → IfOk result (λ read. Reads read (λ fault. IsLine fault × (text ≡ spaced (line_words fault))))
 reads_ok text first words (Ok read) parts reads = reads_line text first words read parts reads
 reads_ok text first words (Err end) parts reads = tt
+
+-- its text is a line
+pub fault_is_line : (fault : FaultLine) → IsLine fault → IsWholeLine (line_text fault)
+unfolding line_text
+fault_is_line fault valid = line_is (line_words fault) (line_words-plain fault valid)

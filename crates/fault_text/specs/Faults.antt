@@ -1,5 +1,5 @@
--- Fault texts: what their lines mean together, and the first bad line.
-use Rattle.std.specs.Prelude.{◌≡◌, ◌≢◌, ℕ, ◌+◌, ◌≤◌, true, false, List, [], ◌∷◌, ◌++◌, length, All, flat_map}
+-- Fault texts: what their lines mean together.
+use Rattle.std.specs.Prelude.{◌≡◌, ℕ, ◌≤◌, true, false, List, [], ◌∷◌, length, All, flat_map}
 use Rattle.storage_model.specs.Faults.{AreRising}
 use Rattle.storage_model.specs.declared.ends.TextEnd.{TextEnd}
 use Rattle.storage_model.specs.declared.ends.TextEnd.TheVariants.{Bad as BadLine, NoMemory}
@@ -7,6 +7,7 @@ use Rattle.storage_model.specs.declared.faults.ArrayHit.{ArrayHit}
 use Rattle.storage_model.specs.declared.faults.Faults.{Faults}
 use Rattle.storage_model.specs.declared.faults.Hit.{Hit}
 use Rattle.storage_model.specs.declared.faults.Letter.{Letter}
+use Rattle.text_words.specs.Texts.{IsBadAt}
 use Rattle.fault_text.specs.declared.line.FaultLine.{FaultLine}
 use Rattle.fault_text.specs.declared.line.FaultLine.TheVariants.{Ready, Bus, Program, Fetch, Cut, Turn}
 use Rattle.fault_text.specs.Lines.{IsLine, line_text}
@@ -77,18 +78,7 @@ pub record Means (bytes : List ℕ) (faults : Faults) : Type 0 where
   pub within : AreWithin lines
   pub meant : faults ≡ faults_of lines
 
--- the first bad line: good lines stand before it, and no line whose text begins the rest can follow
-pub record IsBadAfter (bytes : List ℕ) (good : List FaultLine) (rest : List ℕ) : Type 0 where
-  pub text : bytes ≡ texts good ++ rest
-  pub within : AreWithin good
-  pub more : rest ≢ []
-  pub bad : (fault : FaultLine) (after : List ℕ) → rest ≡ line_text fault ++ after → ¬ AreWithin (good ++ fault ∷ [])
-
--- its number, counted from 1
-abbrev pub IsBadAt : List ℕ → ℕ → Type 0
-IsBadAt bytes line = (good : List FaultLine) × (rest : List ℕ) × IsBadAfter bytes good rest × (line ≡ length good + 1)
-
 -- why a fault text is refused: at its first bad line. Want of memory has no cause in the text
 abbrev pub IsRefused : List ℕ → TextEnd → Type 0
-IsRefused bytes (BadLine line) = IsBadAt bytes line
+IsRefused bytes (BadLine line) = IsBadAt Means bytes line
 IsRefused bytes NoMemory = Unit {0}
