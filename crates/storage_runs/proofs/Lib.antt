@@ -1,0 +1,17 @@
+pub mod Lines
+pub mod Mores
+pub mod Ends
+pub mod Hushes
+pub mod Turns
+pub mod Told
+pub mod CardLast
+pub mod Shown
+pub mod Lags
+pub mod Hosts
+pub mod Engines
+pub mod Cuts
+pub mod Phases
+pub mod Owns
+pub mod Powers
+pub mod Untold
+pub mod Taken

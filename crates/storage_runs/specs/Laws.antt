@@ -1,0 +1,41 @@
+-- The acceptance of traces takes every run, event by event. Between the lines it stands where the run does, but for events that print nothing.
+use Rattle.std.specs.Prelude.{◌≡◌, ◌⊎◌, ◌≤◌, ℕ, ◌||◌, Bool, true, false, not, Option, None, List, ◌++◌}
+use Rattle.storage_machine.specs.Cuts.{is_due}
+use Rattle.storage_machine.specs.declared.state.Event.TheVariants.{Untold}
+use Rattle.storage_machine.specs.declared.state.Owed.TheVariants.{Nothing, End as Ended}
+use Rattle.storage_machine.specs.declared.state.State.{State}
+use Rattle.storage_model.specs.declared.trace.Item.{Item}
+use Rattle.storage_order.specs.Accept.{accept_from}
+use Rattle.storage_order.specs.Events.{end_rule, ended, is_untold}
+use Rattle.storage_runs.specs.Runs.{Comes, Unseen, chosen, is_shown}
+use Rattle.trace_rules.specs.Lines.{is_free}
+use Rattle.trace_rules.specs.Steps.{is_nothing}
+
+-- the state between events, where the event that was told is over
+abbrev pub rested : State → State
+rested m = record (ended m) { owed = Nothing }
+
+-- the acceptor m stands where the events of a run have come to s: it lacks only events that no line tells
+pub record StandsAt (m s : State) : Type 0 where
+  pub free : is_free m.owed ≡ true
+  pub whole : (is_nothing m.owed || is_untold m.event) ≡ true
+  pub ends : end_rule m ≡ None
+  pub calm : (is_untold m.event || not (is_due m)) ≡ true
+  pub depth : 1 ≤ m.plan.depth
+  pub count : ℕ
+  pub unseen : Unseen count (rested m) s
+
+-- a run has ended
+pub record HasEnded (u t : State) : Type 0 where
+  pub owed : t.owed ≡ Ended
+  pub state : u ≡ t
+
+-- after the lines of the next event the acceptor stands where that event leads
+pub record Takes (m t : State) (lines : List Item) : Type 0 where
+  pub after : State
+  pub stands : StandsAt after t ⊎ HasEnded after t
+  pub taken : (more : List Item) → accept_from (lines ++ more) m ≡ accept_from more after
+
+-- The event is shown by its letter, or the acceptor saw the end of the one before.
+abbrev pub IsTaken : State → State → State → List Item → Type 0
+IsTaken m s t lines = StandsAt m s → (is_shown s (chosen s) ≡ true) ⊎ (m.event ≡ Untold) → Comes s lines t → Takes m t lines

@@ -1,0 +1,11 @@
+// What runs and the acceptance have to do with each other.
+ghost use Rattle.storage_machine.specs.declared.state.State.{State};
+ghost use Rattle.storage_model.specs.declared.trace.Item.{Item};
+ghost use Rattle.std.specs.Prelude.{List};
+ghost use Rattle.storage_runs.specs.Laws.{IsTaken};
+
+/// The acceptance of traces takes the lines of each event that comes next, and then stands where the event leads.
+#[tactic(auto)]
+pub fn acceptance_takes_runs()
+    ensures event { (m s t : State) → (lines : List Item) → IsTaken m s t lines }
+{}
