@@ -7,7 +7,8 @@ use Rattle.drv_recover.specs.declared.recovery.RecoveryState.TheVariants.{Calm}
 use Rattle.drv_ring.specs.declared.places.Layout.{Layout}
 use Rattle.drv_jobs.specs.declared.next.Due.{Due}
 use Rattle.drv_jobs.specs.declared.next.Hold.{Hold}
-use Rattle.drv_jobs.specs.Standings.{Standings, all_waiting, is_direct}
+use Rattle.storage_model.specs.Plan.{is_direct}
+use Rattle.drv_jobs.specs.Standings.{Standings, all_waiting}
 use Rattle.drv_core.specs.declared.set_up.TheConstants.{LIST_BASE}
 
 -- while a recovery is under way, it holds the issued requests

@@ -23,13 +23,13 @@ use crate::work::{is_recovering, work_of};
 use crate::{Act, Work};
 use bus_link::{Cause, Link};
 use cq_regs::{Register, Regs};
-use drv_jobs::{Due, Hold, Requests, is_direct};
+use drv_jobs::{Due, Hold, Requests};
 use drv_recover::{Recovery, RecoveryState, Step};
 use drv_ring::Layout;
 use host_mem::HostMem;
 use std::alloc::Global;
 use std::marker::Model;
-use storage_model::{Job, NoMemory, Plan};
+use storage_model::{Job, NoMemory, Plan, is_direct};
 
 /// The offset of the interrupt status (CQHCI_IS).
 const INTERRUPT_STATUS: u8 = 0x10;

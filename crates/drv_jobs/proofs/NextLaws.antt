@@ -13,7 +13,8 @@ use Rattle.drv_jobs.specs.declared.next.Due.{Due}
 use Rattle.drv_jobs.specs.declared.next.Hold.{Hold}
 use Rattle.drv_jobs.specs.declared.next.Hold.TheVariants.{Done, Behind, Full}
 use Rattle.drv_jobs.specs.declared.next.TheConstants.{DIRECT_TAG}
-use Rattle.drv_jobs.specs.Standings.{Standings, holder_of, is_any_issued, is_direct, is_used, job_of}
+use Rattle.storage_model.specs.Plan.{is_direct}
+use Rattle.drv_jobs.specs.Standings.{Standings, holder_of, is_any_issued, is_used, job_of}
 use Rattle.drv_jobs.specs.Next.{due_of, due_at, free_tag, tag_for, with_tag}
 use Rattle.drv_jobs.specs.Sound.{AreTied}
 use Rattle.drv_jobs.proofs.CountLaws.{lowest}

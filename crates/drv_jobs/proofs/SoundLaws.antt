@@ -5,11 +5,11 @@ use Rattle.std.proofs.lemmas.Nat.Bits.{bit_at-zero}
 use Rattle.std.proofs.lemmas.List.{get_or-set_same, get_or-set_other, length-set, length-replicate}
 use Rattle.std.proofs.lemmas.Bool.{eqb-true, eqb-false, false≢true}
 use Rattle.storage_model.specs.declared.plan.Plan.{Plan}
-use Rattle.storage_model.specs.Plan.{IsValidPlan}
+use Rattle.storage_model.specs.Plan.{IsValidPlan, is_direct}
 use Rattle.drv_tags.specs.Tags.{TagSet, none_used}
 use Rattle.drv_jobs.specs.declared.next.Due.{Due}
 use Rattle.drv_jobs.specs.declared.next.TheConstants.{DIRECT_TAG}
-use Rattle.drv_jobs.specs.Standings.{Standings, all_waiting, holder_of, is_direct, is_waiting, job_of, no_holders}
+use Rattle.drv_jobs.specs.Standings.{Standings, all_waiting, holder_of, is_waiting, job_of, no_holders}
 use Rattle.storage_model.specs.declared.plan.Job.{Job}
 use Rattle.storage_model.specs.declared.plan.Job.TheVariants.{Read, Write, Flush, Barrier, Status}
 use Rattle.drv_jobs.specs.Next.{IsFitting, IsTagFor}

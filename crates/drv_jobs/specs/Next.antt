@@ -10,7 +10,8 @@ use Rattle.drv_jobs.specs.declared.next.Due.{Due}
 use Rattle.drv_jobs.specs.declared.next.Hold.{Hold}
 use Rattle.drv_jobs.specs.declared.next.Hold.TheVariants.{Done, Behind, Full}
 use Rattle.drv_jobs.specs.declared.next.TheConstants.{DIRECT_TAG}
-use Rattle.drv_jobs.specs.Standings.{Standings, holder_of, is_any_issued, is_direct, is_used, job_of}
+use Rattle.storage_model.specs.Plan.{is_direct}
+use Rattle.drv_jobs.specs.Standings.{Standings, holder_of, is_any_issued, is_used, job_of}
 
 -- the lowest tag below the depth that is not issued
 abbrev pub free_tag : Standings → Option ℕ

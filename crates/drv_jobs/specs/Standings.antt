@@ -3,8 +3,8 @@
 use Rattle.std.specs.Prelude.{ℕ, ◌-◌, Bool, true, false, Option, None, List, length, replicate, is_some, slice_index_or}
 use Rattle.std.specs.List.{list_any}
 use Rattle.storage_model.specs.declared.plan.Job.{Job}
-use Rattle.storage_model.specs.declared.plan.Job.TheVariants.{Read, Write, Flush}
 use Rattle.storage_model.specs.declared.plan.Plan.{Plan}
+use Rattle.storage_model.specs.Plan.{job_of as listed_job}
 
 -- the requests of a plan, numbered from 1: whether each waits, the one that each of the 32 tags is issued for, and how often a
 -- fault of the bus named each. One that neither waits nor has a tag is answered.
@@ -45,10 +45,4 @@ is_waiting waiting id = slice_index_or waiting (id - 1) false
 
 -- a request's job
 abbrev pub job_of : Plan → ℕ → Job
-job_of plan id = slice_index_or plan.jobs (id - 1) Flush
-
--- a flush, a barrier and a status are commands of their own (CQHCI's direct commands, DCMD)
-abbrev pub is_direct : Job → Bool
-is_direct (Read sector blocks high) = false
-is_direct (Write sector blocks fill forced reliable high) = false
-is_direct job = true
+job_of plan id = listed_job plan.jobs id

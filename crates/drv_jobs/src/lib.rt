@@ -7,5 +7,5 @@ mod holders;
 mod next;
 mod requests;
 
-pub use next::{DIRECT_TAG, Due, Hold, is_direct};
+pub use next::{DIRECT_TAG, Due, Hold};
 pub use requests::{MOST_FAULTS, Requests};

@@ -1,8 +1,4 @@
 // Which request is next.
-ghost use Rattle.std.specs.Prelude.{◌≡◌};
-ghost use Rattle.drv_jobs.specs.Standings.{is_direct};
-
-use storage_model::Job;
 
 /// The tag of direct requests: the last slot of the task descriptor list.
 pub const DIRECT_TAG: u8 = 31;
@@ -23,14 +19,4 @@ pub enum Hold {
     Behind,
     /// All tags are used.
     Full,
-}
-
-/// Whether a job is a command of its own: a flush, a barrier or a status.
-pub fn is_direct(job: &Job) -> bool
-    ensures { result ≡ is_direct job.now }
-{
-    match job {
-        Job::Read { .. } | Job::Write { .. } => false,
-        Job::Flush | Job::Barrier | Job::Status => true,
-    }
 }

@@ -9,11 +9,11 @@ use crate::holders::{
     Holders, count_issued, free_all, free_tag, free_tags, holder_of, is_any_issued, no_holders,
     use_tag,
 };
-use crate::next::{DIRECT_TAG, Due, Hold, is_direct};
+use crate::next::{DIRECT_TAG, Due, Hold};
 use drv_tags::Tags;
 use std::alloc::Global;
 use std::marker::Model;
-use storage_model::{Job, NoMemory, Plan};
+use storage_model::{Job, NoMemory, Plan, is_direct};
 
 /// The number of faults of the bus that ends a request.
 pub const MOST_FAULTS: u8 = 4;

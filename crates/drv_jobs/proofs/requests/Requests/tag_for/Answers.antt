@@ -1,6 +1,7 @@
 use Rattle.std.proofs.Common.{◌≡◌, ◌∙◌, sym, ap}
 use Rattle.std.specs.Prelude.{is_some, false}
-use Rattle.drv_jobs.specs.Standings.{Standings, is_direct, is_used}
+use Rattle.storage_model.specs.Plan.{is_direct}
+use Rattle.drv_jobs.specs.Standings.{Standings, is_used}
 use Rattle.drv_jobs.specs.declared.next.TheConstants.{DIRECT_TAG}
 use Rattle.drv_jobs.proofs.NextLaws.{free_tag-is, tag-other}
 use Rattle.drv_jobs.proofs.requests.Requests.tag_for.Goals as goal
