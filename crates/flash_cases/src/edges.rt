@@ -53,19 +53,6 @@ fn failed_read_is_no_end(rt: HostRuntime) -> Result<(), Fail> {
 }
 
 #[test]
-fn what_was_not_written_was_not_taken(rt: HostRuntime) -> Result<(), Fail> {
-    let mut writer = Narrow {
-        bytes: Vec::new(rt.alloc()),
-        room: 5,
-    };
-    let mut sink = StdSink::over(&mut writer);
-    assert_eq!(rt; put_all(&mut sink, b"abc"), Ok(()));
-    assert_eq!(rt; put_all(&mut sink, b"def"), Err(Failed));
-    assert_eq!(rt; writer.bytes.as_slice(), b"abcde".as_slice());
-    Ok(())
-}
-
-#[test]
 fn what_is_held_is_handed_on_at_the_end(rt: HostRuntime) -> Result<(), Fail> {
     let mut writer = Narrow {
         bytes: Vec::new(rt.alloc()),

@@ -15,7 +15,7 @@ any_left (Std source) = None
 abbrev pub any_faults : {R : Type 0} → AnySource R → Count
 any_faults (Empty source) = counted 0
 any_faults (No faults) = counted faults
-any_faults (Std faults) = counted faults
+any_faults (Std source) = counted source.faults
 
 -- the one whose every call fails
 abbrev pub IsUnopened : {R : Type 0} → AnySource R → Type 0
