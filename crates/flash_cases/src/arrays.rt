@@ -21,7 +21,9 @@ fn three(alloc: Global) -> Result<MemArray, NoMemory>
 }
 
 // Writes each page with bytes of its own, and only then reads them all back.
-fn pages_stand_apart<A: Array>(rt: &impl Abort, array: &mut A) {
+fn pages_stand_apart<A: Array>(rt: &impl Abort, array: &mut A)
+    ensures { (A.state array.new).count ≡ 3 }
+{
     assert!(rt; array.pages() == 3);
     array.power_on();
     for page in 0..3u8 {
