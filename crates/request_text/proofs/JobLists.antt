@@ -14,7 +14,7 @@ use Rattle.storage_model.specs.Plan.{IsValidJob, blocks_of}
 use Rattle.text_words.specs.Words.{line}
 use Rattle.request_text.specs.Requests.{ArePlaced, IsBlock, IsJob, IsPlacedAt, digits_of, job_words, listed_by, named_blocks, request_text, requests_text}
 use Rattle.request_text.proofs.JobTexts.{Request, one_request, request_words-plain}
-use Rattle.request_text.proofs.LineTexts.{line_is, line_long}
+use Rattle.text_words.proofs.LineTexts.{line_is, line_long}
 
 -- lists, taken apart
 take_all : {X : Type 0} (xs : List X) → take (length xs) xs ≡ xs

@@ -20,7 +20,7 @@ use Rattle.request_text.specs.declared.setting.Setting.{Setting}
 use Rattle.request_text.specs.Requests.{IsBlock, IsFill, IsFillAt, IsJob, IsPlacedAt, IsRange, all_words, contents_text, digits_of, fill_words, flag_words, job_words, later_words, listed_by, listed_count}
 use Rattle.request_text.specs.Settings.{IsSetting, setting_text, setting_words}
 use Rattle.request_text.proofs.Digits.{digits_of-word, same_blocks}
-use Rattle.request_text.proofs.LineTexts.{one_line}
+use Rattle.text_words.proofs.LineTexts.{one_line}
 use Rattle.request_text.proofs.SettingTexts.{setting_text-is, setting_words-plain}
 
 two_words : (word value : List ℕ) → IsWord word → IsWord value → All IsWord (word ∷ value ∷ [])

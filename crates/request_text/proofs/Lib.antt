@@ -2,7 +2,6 @@ pub mod Digits
 pub mod JobLists
 pub mod JobTexts
 pub mod JobWords
-pub mod LineTexts
 pub mod Meanings
 pub mod Readings
 pub mod SettingLists

@@ -15,17 +15,20 @@ use Rattle.storage_model.specs.declared.plan.Job.TheVariants.{Read, Write, Flush
 use Rattle.storage_model.specs.declared.plan.Plan.{Plan}
 use Rattle.storage_model.specs.Plan.{IsValidJob, IsValidPlan, blocks_of}
 use Rattle.text_words.specs.Words.{line}
-use Rattle.text_words.proofs.Lines.{IsFree, not_free}
+use Rattle.text_words.specs.Texts.{IsBadAt, lines_in}
+use Rattle.text_words.proofs.BadLines.{Ended, HasLines, bad_front, no_bad_line as no_bad_text}
+use Rattle.text_words.proofs.LineLists.{lines_ended}
+use Rattle.text_words.proofs.Lines.{IsFree}
 use Rattle.request_text.specs.declared.read.Lines.{Lines}
 use Rattle.request_text.specs.declared.setting.Setting.{Setting}
 use Rattle.request_text.specs.Lines.{AreLines, AreRefused, AreSet, Follows, IsFront, NoneFollows, NoneSet}
-use Rattle.request_text.specs.Meaning.{AreRequests, AreSettings, IsBadAfter, IsBadAt, IsRefused, Means, lines_in}
+use Rattle.request_text.specs.Meaning.{AreRequests, AreSettings, IsRefused, Means}
 use Rattle.request_text.specs.Requests.{ArePlaced, IsBlock, IsJob, digits_of, job_words, listed_blocks, named_blocks, request_text, requests_text}
 use Rattle.request_text.specs.Settings.{IsSetting, plan_of, setting_text, settings_text}
 use Rattle.request_text.proofs.Digits.{digits_of-word}
 use Rattle.request_text.proofs.JobLists.{All-back, All-front, first_of, goes, request_line, request_of, valid_jobs}
 use Rattle.request_text.proofs.JobTexts.{job_words-plain, request_no_setting, request_words-plain}
-use Rattle.request_text.proofs.LineTexts.{IsLine, cut, front_line, line_is, line_long, lines_fit, lines_in-append, lines_of}
+use Rattle.text_words.proofs.LineTexts.{IsLine, cut, front_line, line_is, line_long, lines_fit, lines_in-append, lines_of}
 use Rattle.request_text.proofs.SettingLists.{once_new, overlap, plan_blocks, plan_jobs, plan_numbers, settings_front}
 use Rattle.request_text.proofs.SettingTexts.{setting_line, setting_parts, setting_text-line}
 
@@ -265,7 +268,7 @@ refused_behind text settings rest count (Bad number) set fits counted refused =
       left,
       record {
         text = whole;
-        plan = plan_of settings jobs blocks;
+        meaning = plan_of settings jobs blocks;
         means = means_from good settings jobs blocks set.set ended.within refl long;
         more = ended.more;
         bad = no_next settings jobs blocks left set.set ended.within
@@ -275,18 +278,6 @@ refused_behind text settings rest count (Bad number) set fits counted refused =
     )
 
 -- a text that means a plan ends with a line feed
-abbrev Ended : List ℕ → Type 0
-Ended text = (text ≡ []) ⊎ ((front : List ℕ) × (text ≡ front ++ 10 ∷ []))
-
-lines_ended : {T : Type 0} (P : T → Type 0) (text : T → List ℕ) → ((x : T) → P x → IsLine (text x)) → (xs : List T) → All P xs → Ended (flat_map text xs)
-lines_ended P text lines [] all = inl refl
-lines_ended P text lines (x ∷ xs) all =
-    let is = lines x (All-head P x xs all) in
-    elim (lines_ended P text lines xs (All-tail P x xs all)) [
-      | inl none ↦ inr (is.front, ap (λ t. text x ++ t) none ∙ append-nil (text x) ∙ is.whole)
-      | inr some ↦ inr (text x ++ some.0, ap (λ t. text x ++ t) some.1 ∙ sym (append_assoc (text x) some.0 (10 ∷ [])))
-    ]
-
 both_ended : (a b : List ℕ) → Ended a → Ended b → Ended (a ++ b)
 both_ended a b one two =
     elim two [
@@ -303,136 +294,26 @@ means_ended bytes plan means =
     (both_ended (settings_text means.settings) (requests_text plan.blocks plan.jobs) (lines_ended IsSetting setting_text setting_text-line means.settings means.set.each)
     (lines_ended IsJob (request_text plan.blocks) (request_is_line plan.blocks means.requests.listed) plan.jobs means.requests.each))
 
-not_ended : (good rest front : List ℕ) → good ++ rest ≡ front ++ 10 ∷ [] → rest ≢ [] → IsFree 10 rest → ⊥
-not_ended [] rest front same some free = not_free 10 front [] (subst (λ (t : List ℕ). IsFree 10 t) same free)
-not_ended (b ∷ good) rest [] same some free = some (empty good rest (cc))
-  where
-    empty : (xs ys : List ℕ) → xs ++ ys ≡ [] → ys ≡ []
-    empty [] ys e = e
-    empty (x ∷ xs) ys e = absurd (cc)
-not_ended (b ∷ good) rest (c ∷ front) same some free = not_ended good rest front (cc) some free
+-- a text that means a plan has not more than 16 MiB
+pub meaning_fits : (bytes : List ℕ) (plan : Plan) → Means bytes plan → length bytes ≤ 16777216
+meaning_fits bytes plan means = means.long
 
-record FirstLine (rest : List ℕ) : Type 0 where
-  next : List ℕ
-  after : List ℕ
-  parts : rest ≡ next ++ 10 ∷ after
-  free : IsFree 10 next
-
-first_line : (rest : List ℕ) → FirstLine rest ⊎ IsFree 10 rest
-first_line [] = inr (All-nil (λ b. b ≢ 10))
-first_line (b ∷ rest) =
-    elim (is_break b) [
-      | inl break ↦ inl (record { next = []; after = rest; parts = ap (λ c. c ∷ rest) break; free = All-nil (λ b. b ≢ 10) })
-      | inr other ↦ elim (first_line rest) [
-        | inl first ↦ inl (record { next = b ∷ first.next; after = first.after; parts = ap (λ t. b ∷ t) first.parts; free = All-cons (λ b. b ≢ 10) b first.next other first.free })
-        | inr free ↦ inr (All-cons (λ b. b ≢ 10) b rest other free)
-      ]
-    ]
-  where
-    either : (c : Bool) → (c ≡ true) ⊎ (c ≡ false)
-    either true = inl refl
-    either false = inr refl
-
-    is_break : (b : ℕ) → (b ≡ 10) ⊎ (b ≢ 10)
-    is_break b = elim (either (b == 10)) [
-      | inl holds ↦ inl (eqb-true b 10 holds)
-      | inr fails ↦ inr (λ e. let here : (b == 10) ≡ true = rw e refl in cc)
-    ]
-
--- no text with a meaning goes past a bad line
-behind_bad : (bytes good rest more after : List ℕ) (plan : Plan) → IsBadAfter bytes good rest → Means (good ++ more) plan → rest ≡ more ++ after → more ≢ [] → ⊥
-behind_bad bytes good rest more after plan bad means is some =
-    elim (first_line more) [
-      | inl first ↦ (
-          let whole : good ++ more ≡ good ++ first.next ++ 10 ∷ first.after = ap (λ t. good ++ t) first.parts ∙ sym (append_assoc good first.next (10 ∷ first.after)) in
-          let front = front_means (good ++ first.next) first.after plan (subst (λ (t : List ℕ). Means t plan) whole means) in
-          bad.bad first.next (first.after ++ after) front.0 (is ∙ ap (λ t. t ++ after) first.parts ∙ append_assoc first.next (10 ∷ first.after) after) first.free front.1
-          )
-      | inr free ↦ elim (means_ended (good ++ more) plan means) [
-        | inl none ↦ some (back_empty good more none)
-        | inr ended ↦ not_ended good more ended.0 ended.1 some free
-      ]
-    ]
-  where
-    back_empty : (xs ys : List ℕ) → xs ++ ys ≡ [] → ys ≡ []
-    back_empty [] ys e = e
-    back_empty (x ∷ xs) ys e = absurd (cc)
+-- each front of whole lines is a request text
+has_lines : HasLines Means
+has_lines = record { front = front_means; ended = means_ended }
 
 -- a text that means a plan has no bad line
-pub no_bad_line : (bytes : List ℕ) (plan : Plan) (number : ℕ) → Means bytes plan → IsBadAt bytes number → ⊥
-no_bad_line bytes plan number means bad =
-    behind_bad bytes bad.0 bad.1 bad.1 [] plan bad.2 (subst (λ (t : List ℕ). Means t plan) bad.2.text means) (sym (append-nil bad.1)) bad.2.more
-
-abbrev OneIsFront : List ℕ → List ℕ → List ℕ → List ℕ → Type 0
-OneIsFront a x b y = ((more : List ℕ) × (b ≡ a ++ more) × (x ≡ more ++ y)) ⊎ ((more : List ℕ) × (a ≡ b ++ more) × (y ≡ more ++ x))
-
-one_front : (a b x y : List ℕ) → a ++ x ≡ b ++ y → OneIsFront a x b y
-one_front [] b x y same = inl (b, refl, same)
-one_front (c ∷ a) [] x y same = inr (c ∷ a, refl, sym same)
-one_front (c ∷ a) (d ∷ b) x y same =
-    let head : c ≡ d = cc in
-    elim (one_front a b x y (cc)) [
-      | inl left ↦ (let list = left.1 in inl (left.0, (cc), left.2))
-      | inr right ↦ (let list = right.1 in inr (right.0, (cc), right.2))
-    ]
-
-same_good : (bytes good rest other behind more : List ℕ) → IsBadAfter bytes good rest → IsBadAfter bytes other behind → other ≡ good ++ more → rest ≡ more ++ behind → good ≡ other
-same_good bytes good rest other behind [] bad also list is = sym (list ∙ append-nil good)
-same_good bytes good rest other behind (b ∷ more) bad also list is =
-    absurd (behind_bad bytes good rest (b ∷ more) behind also.plan bad (subst (λ (t : List ℕ). Means t also.plan) list also.means) is (λ e. cc))
-
--- a text has one first bad line
-pub one_bad_line : (bytes : List ℕ) (number other : ℕ) → IsBadAt bytes number → IsBadAt bytes other → number ≡ other
-one_bad_line bytes number other bad also =
-    elim (one_front bad.0 also.0 bad.1 also.1 (sym bad.2.text ∙ also.2.text)) [
-      | inl left ↦ bad.3 ∙ ap (λ (t : List ℕ). lines_in t + 1) (same_good bytes bad.0 bad.1 also.0 also.1 left.0 bad.2 also.2 left.1 left.2) ∙ sym also.3
-      | inr right ↦ bad.3 ∙ ap (λ (t : List ℕ). lines_in t + 1) (sym (same_good bytes also.0 also.1 bad.0 bad.1 right.0 also.2 bad.2 right.1 right.2)) ∙ sym also.3
-    ]
-
-shorter_front : (a b x y : List ℕ) → length a ≤ length x → x ++ y ≡ a ++ b → (after : List ℕ) × (x ≡ a ++ after)
-shorter_front [] b x y short same = (x, refl)
-shorter_front (c ∷ a) b [] y short same = absurd (omega arith)
-shorter_front (c ∷ a) b (d ∷ x) y short same =
-    let rest = shorter_front a b x y (omega arith) (cc) in
-    let tail = rest.1 in
-    let head : d ≡ c = cc in
-    (rest.0, cc)
-
-empty_front : (front more : List ℕ) → front ++ more ≡ [] → front ≡ []
-empty_front [] more e = refl
-empty_front (b ∷ front) more e = absurd (cc)
-
--- a text of so many bytes as a text may have, or more, has the first bad line of its front, if that front has one
-pub bad_front : (front more : List ℕ) (number : ℕ) → 16777216 ≤ length front → IsBadAt front number → IsBadAt (front ++ more) number
-bad_front front more number long bad =
-    let good = bad.0 in
-    let rest = bad.1 in
-    let text = bad.2.text in (
-      good,
-      rest ++ more,
-      record {
-        text = ap (λ t. t ++ more) text ∙ append_assoc good rest more;
-        plan = bad.2.plan;
-        means = bad.2.means;
-        more = λ e. bad.2.more (empty_front rest more e);
-        bad = λ next after other is free means.
-            let whole : rest ++ more ≡ (next ++ 10 ∷ []) ++ after = is ∙ sym (append_assoc next (10 ∷ []) after) in
-            let short : length (next ++ 10 ∷ []) ≤ length rest =
-            omega (arith, means.long, long, ap length text, length-append good rest, length-append (good ++ next) (10 ∷ []), length-append good next, length-append next (10 ∷ [])) in
-            let parts = shorter_front (next ++ 10 ∷ []) after rest more short whole in
-            bad.2.bad next parts.0 other (parts.1 ∙ append_assoc next (10 ∷ []) parts.0) free means;
-      },
-      bad.3,
-    )
+pub no_bad_line : (bytes : List ℕ) (plan : Plan) (number : ℕ) → Means bytes plan → IsBadAt Means bytes number → ⊥
+no_bad_line bytes plan number means bad = no_bad_text Means has_lines bytes plan number means bad
 
 -- the line behind the last byte that a text may have is bad
-pub bad_behind : (front more : List ℕ) (plan : Plan) → length front ≡ 16777216 → more ≢ [] → Means front plan → IsBadAt (front ++ more) (lines_in front + 1)
+pub bad_behind : (front more : List ℕ) (plan : Plan) → length front ≡ 16777216 → more ≢ [] → Means front plan → IsBadAt Means (front ++ more) (lines_in front + 1)
 bad_behind front more plan long some means = (
   front,
   more,
   record {
     text = refl;
-    plan = plan;
+    meaning = plan;
     means = means;
     more = some;
     bad = λ next after other is free longer. omega (arith, longer.long, length-append (front ++ next) (10 ∷ []), length-append front next);
@@ -445,9 +326,9 @@ pub refused_front : (bytes front : List ℕ) (end : TextEnd) → IsFront bytes f
 refused_front bytes front NoMemory is refused = tt
 refused_front bytes front (Bad number) is refused = by_more is.more is.parts is.all
   where
-    by_more : (more : List ℕ) → bytes ≡ front ++ more → (more ≢ [] → length front ≡ 16777216) → IsBadAt bytes number
-    by_more [] parts all = subst (λ (t : List ℕ). IsBadAt t number) (sym (parts ∙ append-nil front)) refused
-    by_more (b ∷ more) parts all = subst (λ (t : List ℕ). IsBadAt t number) (sym parts) (bad_front front (b ∷ more) number (omega (arith, all (λ e. cc))) refused)
+    by_more : (more : List ℕ) → bytes ≡ front ++ more → (more ≢ [] → length front ≡ 16777216) → IsBadAt Means bytes number
+    by_more [] parts all = subst (λ (t : List ℕ). IsBadAt Means t number) (sym (parts ∙ append-nil front)) refused
+    by_more (b ∷ more) parts all = subst (λ (t : List ℕ). IsBadAt Means t number) (sym parts) (bad_front Means has_lines 16777216 meaning_fits front (b ∷ more) number (omega (arith, all (λ e. cc))) refused)
 
 -- lines that were read make a plan
 pub lines_mean : (text : List ℕ) (lines : Lines) → AreLines text lines → length text ≤ 16777216 → Means text (plan_of lines.settings lines.jobs lines.blocks)
@@ -468,17 +349,17 @@ whole_front bytes front is long = by_more is.more is.parts
     by_more (b ∷ more) parts = absurd (omega (arith, ap length parts, length-append front (b ∷ more)))
 
 -- a text that is longer than its front is bad behind it
-pub bad_over : (bytes front : List ℕ) (lines : Lines) (count : ℕ) → IsFront bytes front → AreLines front lines → length front < length bytes → count ≡ length lines.settings + length lines.jobs → IsBadAt bytes (count + 1)
+pub bad_over : (bytes front : List ℕ) (lines : Lines) (count : ℕ) → IsFront bytes front → AreLines front lines → length front < length bytes → count ≡ length lines.settings + length lines.jobs → IsBadAt Means bytes (count + 1)
 bad_over bytes front lines count is read long counted = by_more is.more is.parts is.all
   where
     number : lines_in front + 1 ≡ count + 1
     number = ap (λ n. n + 1) (lines_count front lines read ∙ sym counted)
 
-    by_more : (more : List ℕ) → bytes ≡ front ++ more → (more ≢ [] → length front ≡ 16777216) → IsBadAt bytes (count + 1)
+    by_more : (more : List ℕ) → bytes ≡ front ++ more → (more ≢ [] → length front ≡ 16777216) → IsBadAt Means bytes (count + 1)
     by_more [] parts all = absurd (omega (arith, ap length (parts ∙ append-nil front)))
     by_more (b ∷ more) parts all =
-        subst (λ (t : List ℕ). IsBadAt t (count + 1)) (sym parts)
-        (subst (λ (n : ℕ). IsBadAt (front ++ b ∷ more) n) number (bad_behind front (b ∷ more) (plan_of lines.settings lines.jobs lines.blocks) (all (λ e. cc)) (λ e. cc) (lines_mean front lines read is.within)))
+        subst (λ (t : List ℕ). IsBadAt Means t (count + 1)) (sym parts)
+        (subst (λ (n : ℕ). IsBadAt Means (front ++ b ∷ more) n) number (bad_behind front (b ∷ more) (plan_of lines.settings lines.jobs lines.blocks) (all (λ e. cc)) (λ e. cc) (lines_mean front lines read is.within)))
 
 -- a text that means a plan is not refused
 pub not_refused : (result : Result Plan TextEnd) (bytes : List ℕ) (end : TextEnd) (plan : Plan) → IsErrAnd result (λ e. e ≡ end) → IsRefused bytes end → Means bytes plan
@@ -486,7 +367,3 @@ pub not_refused : (result : Result Plan TextEnd) (bytes : List ℕ) (end : TextE
 not_refused (Ok value) bytes end plan same refused means = absurd same
 not_refused (Err e) bytes NoMemory plan same refused means = (tt, same)
 not_refused (Err e) bytes (Bad number) plan same refused means = absurd (no_bad_line bytes plan number means refused)
-
--- a text that means a plan has not more than 16 MiB
-pub meaning_fits : (bytes : List ℕ) (plan : Plan) → Means bytes plan → length bytes ≤ 16777216
-meaning_fits bytes plan means = means.long

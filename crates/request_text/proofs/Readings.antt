@@ -16,7 +16,7 @@ use Rattle.request_text.specs.Requests.{ArePlaced, IsBlock, IsJob, IsPlacedAt, d
 use Rattle.request_text.proofs.Digits.{digits_of-word}
 use Rattle.request_text.proofs.JobLists.{placed_push, placed_room, requests_push}
 use Rattle.request_text.proofs.JobTexts.{job_words-plain, line_from_words, same_job, words_from_line}
-use Rattle.request_text.proofs.LineTexts.{line_break}
+use Rattle.text_words.proofs.LineTexts.{line_break}
 
 pub no_request : (place : ℕ) (jobs : List Job) (blocks : List Block) (text : List ℕ) → place ≡ length blocks
     → ((job : Job) (digits : List ℕ) → IsJob job → IsPlacedAt place job → All (λ b. 32 < b) digits → ¬ (text ≡ spaced (job_words digits job)))

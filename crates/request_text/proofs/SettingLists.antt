@@ -11,7 +11,7 @@ use Rattle.request_text.specs.declared.setting.Setting.{Setting}
 use Rattle.request_text.specs.declared.setting.Setting.TheVariants.{Depth, Cache, Descriptors, Coalesce}
 use Rattle.request_text.specs.Meaning.{AreSettings}
 use Rattle.request_text.specs.Settings.{IsCache, AreOnce, IsNew, IsSetting, kind_of, plan_of, setting_text, settings_text, standard, with_cache, with_setting}
-use Rattle.request_text.proofs.LineTexts.{line_long}
+use Rattle.text_words.proofs.LineTexts.{line_long}
 use Rattle.request_text.proofs.SettingTexts.{one_setting, setting_text-line}
 
 once_push : (settings : List Setting) (setting : Setting) → AreOnce settings → IsNew (kind_of setting) settings → AreOnce (settings ++ setting ∷ [])

@@ -8,7 +8,7 @@ use Rattle.text_words.specs.Reads.{Reads}
 use Rattle.text_words.specs.Words.{line, spaced, words_of}
 use Rattle.text_words.proofs.Lines.{IsFree, IsWord, free_words, word_from_test, words_of-words}
 use Rattle.text_words.proofs.Spellings.{decimal_low, decimal_word}
-use Rattle.request_text.proofs.LineTexts.{IsLine, front_line, line_is, line_parts, no_line, one_line}
+use Rattle.text_words.proofs.LineTexts.{IsLine, front_line, line_is, line_parts, no_line, one_line}
 use Rattle.request_text.specs.declared.setting.Kind.{Kind}
 use Rattle.request_text.specs.declared.setting.Kind.TheVariants.{Depth as DepthKind, Cache as CacheKind, Descriptors as DescriptorsKind, Coalesce as CoalesceKind}
 use Rattle.request_text.specs.declared.setting.Setting.{Setting}

@@ -1,11 +1,12 @@
 -- What a request text means, and where it is bad. The meaning is said by writing.
-use Rattle.std.specs.Prelude.{◌≡◌, ◌≢◌, ◌==◌, ℕ, ◌+◌, ◌≤◌, List, [], ◌∷◌, ◌++◌, All, count_by, length, sum_by}
+use Rattle.std.specs.Prelude.{◌≡◌, ℕ, ◌≤◌, List, ◌++◌, All, length, sum_by}
 use Rattle.storage_model.specs.declared.block.Block.{Block}
 use Rattle.storage_model.specs.declared.ends.TextEnd.{TextEnd}
 use Rattle.storage_model.specs.declared.ends.TextEnd.TheVariants.{Bad, NoMemory}
 use Rattle.storage_model.specs.declared.plan.Job.{Job}
 use Rattle.storage_model.specs.declared.plan.Plan.{Plan}
 use Rattle.storage_model.specs.Plan.{blocks_of}
+use Rattle.text_words.specs.Texts.{IsBadAt}
 use Rattle.request_text.specs.Requests.{ArePlaced, IsBlock, IsJob, requests_text}
 use Rattle.request_text.specs.Settings.{AreOnce, IsSetting, plan_of, settings_text}
 use Rattle.request_text.specs.declared.setting.Setting.{Setting}
@@ -32,23 +33,7 @@ pub record Means (bytes : List ℕ) (plan : Plan) : Type 0 where
   pub fields : plan ≡ plan_of settings plan.jobs plan.blocks
   pub long : length bytes ≤ 16777216
 
--- how many lines end in a text
-abbrev pub lines_in : List ℕ → ℕ
-lines_in bytes = count_by (λ b. b == 10) bytes
-
--- a text up to its first bad line: it means a plan, and with the next line it means none, if there is a whole next line
-pub record IsBadAfter (bytes good rest : List ℕ) : Type 0 where
-  pub text : bytes ≡ good ++ rest
-  pub plan : Plan
-  pub means : Means good plan
-  pub more : rest ≢ []
-  pub bad : (next after : List ℕ) (other : Plan) → rest ≡ next ++ 10 ∷ after → All (λ b. b ≢ 10) next → ¬ Means (good ++ next ++ 10 ∷ []) other
-
--- the number of its first bad line, counted from 1
-abbrev pub IsBadAt : List ℕ → ℕ → Type 0
-IsBadAt bytes number = (good : List ℕ) × (rest : List ℕ) × IsBadAfter bytes good rest × (number ≡ lines_in good + 1)
-
 -- why a text is refused: at its first bad line. Want of memory has no cause in the text
 abbrev pub IsRefused : List ℕ → TextEnd → Type 0
-IsRefused bytes (Bad number) = IsBadAt bytes number
+IsRefused bytes (Bad number) = IsBadAt Means bytes number
 IsRefused bytes NoMemory = Unit {0}
