@@ -12,7 +12,7 @@ use Rattle.storage_order.specs.Events.{Lasts, More, closed, ended, is_over}
 use Rattle.storage_order.specs.Order.{order_rule, settled}
 use Rattle.storage_runs.proofs.Lines.{one_taken}
 use Rattle.storage_runs.proofs.Mores.{end_untold, ended_untold, is_untold_event, more_taken, or_true}
-use Rattle.storage_runs.specs.Laws.{HasEnded, StandsAt, Takes, rested}
+use Rattle.storage_runs.specs.Laws.{Closes, HasEnded, StandsAt, Takes, rested}
 use Rattle.storage_runs.specs.Runs.{StaysSo}
 use Rattle.trace_effects.proofs.Sounds.{effect_keeps}
 use Rattle.trace_effects.specs.Effects.{effect}
@@ -64,14 +64,17 @@ pub record First (m b : State) (item : Item) : Type 0 where
   pub effect : effect at item ≡ effect b item
 
 -- an event that has begun in b, and whose first line is taken, is taken
-pub lasts_taken : (m b t : State) (item : Item) (items : List Item) → Lasts b item items t → StaysSo b (item ∷ items) → First m b item → 1 ≤ b.plan.depth → Takes m t (item ∷ items)
+pub lasts_taken : (m b t : State) (item : Item) (items : List Item) → Lasts b item items t → StaysSo b (item ∷ items) → First m b item → 1 ≤ b.plan.depth → Closes m t (item ∷ items)
 lasts_taken m b t item items lasts so first depth =
     let begins = lasts.begins in
     let same = more_plan (effect b item) lasts.last items begins.more ∙ (effect_keeps b item).plan in
     record {
-      after = lasts.last;
-      stands = after_by lasts.last t lasts.last.owed refl lasts.over (is_untold_event lasts.last.event lasts.event) lasts.state (rw (ap (λ plan. plan.depth) same) depth);
-      taken = λ more.
-          one_taken m first.at item first.settled first.order first.line first.event (items ++ more)
-          ∙ (ap (accept_from (items ++ more)) first.effect ∙ more_taken (effect b item) lasts.last items begins.more so.1 more);
+      takes = record {
+        after = lasts.last;
+        stands = after_by lasts.last t lasts.last.owed refl lasts.over (is_untold_event lasts.last.event lasts.event) lasts.state (rw (ap (λ plan. plan.depth) same) depth);
+        taken = λ more.
+            one_taken m first.at item first.settled first.order first.line first.event (items ++ more)
+            ∙ (ap (accept_from (items ++ more)) first.effect ∙ more_taken (effect b item) lasts.last items begins.more so.1 more);
+      };
+      event = is_untold_event lasts.last.event lasts.event;
     }

@@ -14,4 +14,5 @@ pub mod Phases
 pub mod Owns
 pub mod Powers
 pub mod Untold
+pub mod Texts
 pub mod Taken

@@ -52,7 +52,7 @@ begun_plan s actor = begun_by_plan (record s { owed = Nothing }) actor
 own_line : (b t : State) (item : Item) (items : List Item) (actor : Letter) → IsBegun b actor → Lasts b item items t → Yields b (item ∷ items) → StaysSo b (item ∷ items) → 1 ≤ b.plan.depth
     → is_of_next b actor item ≡ false → Takes b t (item ∷ items)
 own_line b t item items actor begins lasts yields so depth own =
-    lasts_taken b b t item items lasts so (told_first b actor item begins lasts.begins.told lasts.begins.first yields so.0 own) depth
+    (lasts_taken b b t item items lasts so (told_first b actor item begins lasts.begins.told lasts.begins.first yields so.0 own) depth).takes
 
 card_line : (b t : State) (item : Item) (items : List Item) (next : Bool) → is_of_next b Card item ≡ next → to_do b ≡ true → IsBegun b Card → Lasts b item items t → Yields b (item ∷ items) → StaysSo b (item ∷ items)
     → 1 ≤ b.plan.depth → Takes b t (item ∷ items)

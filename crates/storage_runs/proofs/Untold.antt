@@ -24,7 +24,7 @@ use Rattle.storage_runs.proofs.Lags.{Reached, unseen_late, unseen_letters, unsee
 use Rattle.storage_runs.proofs.Phases.{engine_phase}
 use Rattle.storage_runs.proofs.Powers.{Between, power_cut, power_phase}
 use Rattle.storage_runs.proofs.Shown.{begun_by_plan, ended_plan}
-use Rattle.storage_runs.specs.Laws.{StandsAt, Takes, rested}
+use Rattle.storage_runs.specs.Laws.{Closes, StandsAt, Takes, rested}
 use Rattle.storage_runs.specs.Runs.{Comes, StaysSo, Unseen, Yields, begun_next, chosen, chosen_by, is_shown, next_letter, shown}
 use Rattle.trace_effects.specs.Effects.{begun_by}
 use Rattle.trace_rules.specs.Steps.{is_cut, is_line_of, is_nothing, is_under_way, stands_in, yields_to_cut}
@@ -137,30 +137,33 @@ unseen_more : (k : ℕ) (r s t : State) → Unseen k r s → Comes s [] t → Un
 unseen_more zero r s t un comes = (t, rw un at comes, refl)
 unseen_more (suc k) r s t un comes = (un.0, un.1, unseen_more k un.0 s t un.2 comes)
 
-quiet_comes : (m s t : State) (lines : List Item) → StandsAt m s → Comes s lines t → lines ≡ [] → Takes m t lines
-quiet_comes m s t lines st comes none = record {
-  after = m;
-  stands = inl (record {
-    free = st.free;
-    whole = st.whole;
-    ends = st.ends;
-    calm = st.calm;
-    depth = st.depth;
-    count = suc st.count;
-    unseen = unseen_more st.count (rested m) s t st.unseen (rw none at comes);
-  });
-  taken = λ more. ap (λ lines. accept_from (lines ++ more) m) none;
+quiet_comes : (m s t : State) (lines : List Item) → StandsAt m s → Comes s lines t → lines ≡ [] → m.event ≡ Untold → Closes m t lines
+quiet_comes m s t lines st comes none e = record {
+  takes = record {
+    after = m;
+    stands = inl (record {
+      free = st.free;
+      whole = st.whole;
+      ends = st.ends;
+      calm = st.calm;
+      depth = st.depth;
+      count = suc st.count;
+      unseen = unseen_more st.count (rested m) s t st.unseen (rw none at comes);
+    });
+    taken = λ more. ap (λ lines. accept_from (lines ++ more) m) none;
+  };
+  event = e;
 }
 
-takes_at : (m t : State) (lines items : List Item) → lines ≡ items → Takes m t items → Takes m t lines
+takes_at : (m t : State) (lines items : List Item) → lines ≡ items → Closes m t items → Closes m t lines
 takes_at m t lines items at takes = rw at takes
 
 depth_at : (m s : State) (actor : Letter) → Between m s → 1 ≤ (begun_by s actor).plan.depth
 depth_at m s actor x = rw (ap (λ plan. plan.depth) (begun_by_plan s actor ∙ (x.kept.plan ∙ ended_plan m))) x.stands.depth
 
 items_by : (m s t b : State) (lines items : List Item) (actor : Letter) → StandsAt m s → Comes s lines t → Between m s → actor ≡ chosen s → is_shown s actor ≡ false → lines ≡ items → b ≡ begun_by s actor
-    → Makes b items t → Yields b items → StaysSo b items → Takes m t lines
-items_by m s t b lines [] actor st comes x is unshown at begun makes yields so = quiet_comes m s t lines st comes at
+    → Makes b items t → Yields b items → StaysSo b items → Closes m t lines
+items_by m s t b lines [] actor st comes x is unshown at begun makes yields so = quiet_comes m s t lines st comes at x.event
 items_by m s t b lines (item ∷ items) actor st comes x is unshown at begun makes yields so =
     let lasts = rw begun at makes in
     let begins = lasts.begins in
@@ -174,7 +177,7 @@ items_by m s t b lines (item ∷ items) actor st comes x is unshown at begun mak
     (depth_at m s actor x))
 
 -- the event is taken
-pub untold_taken : (m s t : State) (lines : List Item) → StandsAt m s → Comes s lines t → is_shown s (chosen s) ≡ false → m.event ≡ Untold → Takes m t lines
+pub untold_taken : (m s t : State) (lines : List Item) → StandsAt m s → Comes s lines t → is_shown s (chosen s) ≡ false → m.event ≡ Untold → Closes m t lines
 untold_taken m s t lines st comes unshown e =
     let x = between m s st e in
     let actor = chosen s in

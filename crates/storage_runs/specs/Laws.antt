@@ -1,5 +1,5 @@
 -- The acceptance of traces takes every run, event by event. Between the lines it stands where the run does, but for events that print nothing.
-use Rattle.std.specs.Prelude.{◌≡◌, ◌⊎◌, ◌≤◌, ℕ, ◌||◌, Bool, true, false, not, Option, None, List, ◌++◌}
+use Rattle.std.specs.Prelude.{◌≡◌, ◌⊎◌, ◌≤◌, ℕ, ◌||◌, Bool, true, false, not, Option, None, List, [], ◌∷◌, ◌++◌}
 use Rattle.storage_machine.specs.Cuts.{is_due}
 use Rattle.storage_machine.specs.declared.state.Event.TheVariants.{Untold}
 use Rattle.storage_machine.specs.declared.state.Owed.TheVariants.{Nothing, End as Ended}
@@ -7,7 +7,7 @@ use Rattle.storage_machine.specs.declared.state.State.{State}
 use Rattle.storage_model.specs.declared.trace.Item.{Item}
 use Rattle.storage_order.specs.Accept.{accept_from}
 use Rattle.storage_order.specs.Events.{end_rule, ended, is_untold}
-use Rattle.storage_runs.specs.Runs.{Comes, Unseen, chosen, is_shown}
+use Rattle.storage_runs.specs.Runs.{Comes, Run, Unseen, chosen, is_shown}
 use Rattle.trace_rules.specs.Lines.{is_free}
 use Rattle.trace_rules.specs.Steps.{is_nothing}
 
@@ -36,6 +36,20 @@ pub record Takes (m t : State) (lines : List Item) : Type 0 where
   pub stands : StandsAt after t ⊎ HasEnded after t
   pub taken : (more : List Item) → accept_from (lines ++ more) m ≡ accept_from more after
 
+-- and it saw the end of that event
+pub record Closes (m t : State) (lines : List Item) : Type 0 where
+  pub takes : Takes m t lines
+  pub event : takes.after.event ≡ Untold
+
 -- The event is shown by its letter, or the acceptor saw the end of the one before.
 abbrev pub IsTaken : State → State → State → List Item → Type 0
 IsTaken m s t lines = StandsAt m s → (is_shown s (chosen s) ≡ true) ⊎ (m.event ≡ Untold) → Comes s lines t → Takes m t lines
+
+-- the lines of all events
+abbrev pub joined : List (List Item) → List Item
+joined [] = []
+joined (lines ∷ events) = lines ++ joined events
+
+-- a whole run without letters
+abbrev pub IsRunTaken : State → State → State → List (List Item) → Type 0
+IsRunTaken m s t events = StandsAt m s → m.event ≡ Untold → s.faults.turns ≡ [] → Run s events t → Closes m t (joined events)
