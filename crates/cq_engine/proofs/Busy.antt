@@ -1,12 +1,10 @@
 -- An event does something, unless the engine rests or the timer ticks.
-use Rattle.std.proofs.Common.{◌≡◌, ◌⊎◌, ◌==◌, ◌&&◌, ℕ, refl, sym, ◌∙◌, ap, subst, inl, inr}
-use Rattle.std.specs.Prelude.{◌↔◌, Bool, true, false, not, cond, [], Option, Some, None, Result, Ok, Err}
+use Rattle.std.proofs.Common.{◌≡◌, ◌⊎◌, ◌==◌, ◌&&◌, ℕ, refl, sym, ap, subst, inl, inr}
+use Rattle.std.specs.Prelude.{◌↔◌, Bool, true, false, not, cond, [], Some, None, Result, Ok, Err}
 use Rattle.std.specs.Bool.{MatchBool}
-use Rattle.std.specs.Option.{IsSomeAnd}
 use Rattle.host_mem.specs.Memory.{Memory}
 use Rattle.bus_link.specs.Link.{Call, is_poll}
 use Rattle.bus_link.specs.declared.link.Cause.{Cause}
-use Rattle.bus_link.specs.declared.link.Cause.TheVariants.{Response}
 use Rattle.bus_link.specs.declared.link.LinkEnd.{LinkEnd}
 use Rattle.cmd_words.specs.declared.command.Command.{Command}
 use Rattle.cmd_words.specs.declared.command.Command.TheVariants.{Address}
@@ -19,19 +17,18 @@ use Rattle.cq_task.specs.declared.slot.SlotTask.{SlotTask}
 use Rattle.cq_task.specs.declared.slot.SlotTask.TheVariants.{Direct as DirectTask, Data}
 use Rattle.cq_regs.specs.State.{Registers}
 use Rattle.cq_regs.specs.Slots.{IsRing}
-use Rattle.cq_schedule.specs.declared.held.HeldTask.{HeldTask}
 use Rattle.cq_schedule.specs.declared.rules.Due.{Due}
 use Rattle.cq_schedule.specs.declared.rules.Due.TheVariants.{Rest, Block as NextBlock, Close, Address as AddressNext, Serve, Execute, Poll, Tick}
-use Rattle.cq_schedule.specs.Held.{held_at, remembered}
+use Rattle.cq_schedule.specs.Held.{held_at}
 use Rattle.cq_schedule.specs.Meaning.{rests}
 use Rattle.cq_schedule.proofs.Idle.{idle_exactly}
 use Rattle.piece_data.specs.Data.{block_of}
 use Rattle.cq_engine.specs.declared.did.Did.{Did}
-use Rattle.cq_engine.specs.declared.did.Did.TheVariants.{Idle, Sent, Direct, Moved, Finished, Dropped, Stopped}
-use Rattle.cq_engine.specs.Words.{command_error, direct_of, execute_of, has_error, is_masked, params_of, poll_of}
-use Rattle.cq_engine.specs.Outcome.{Holding, Host, Outcome, heard, judged, responded, stop, with_regs, word_in}
-use Rattle.cq_engine.specs.After.{addressed, after_address, after_block, after_close, after_command, after_direct, after_execute, after_params, after_poll, direct_done, direct_ended, direct_heard, executed, finished, led_on, named, phase_ended, polled}
-use Rattle.cq_engine.specs.Event.{Acts, Does, Event, Gives, Serves, Takes}
+use Rattle.cq_engine.specs.declared.did.Did.TheVariants.{Idle}
+use Rattle.cq_engine.specs.Words.{direct_of, execute_of, has_error, is_masked, params_of, poll_of}
+use Rattle.cq_engine.specs.Outcome.{Host, Outcome, heard, judged, with_regs, word_in}
+use Rattle.cq_engine.specs.After.{addressed, after_block, after_close, after_command, direct_ended, direct_heard, executed, led_on, named, phase_ended, polled}
+use Rattle.cq_engine.specs.Event.{Acts, Does, Gives, Serves, Takes}
 use Rattle.cq_engine.proofs.Events.{some_task}
 
 -- something was done

@@ -1,8 +1,8 @@
 -- The blocks that are counted of each task that is held.
-use Rattle.std.proofs.Common.{◌≡◌, ◌≢◌, ◌<◌, ◌≤◌, ◌⊎◌, ◌==◌, ◌&&◌, ℕ, length, refl, sym, ◌∙◌, ap, subst, arith, inl, inr}
+use Rattle.std.proofs.Common.{◌≡◌, ◌≢◌, ◌<◌, ◌≤◌, ◌==◌, ◌&&◌, ℕ, length, refl, sym, ◌∙◌, ap, subst, arith, inl, inr}
 use Rattle.std.specs.Prelude.{Bool, true, false, not, cond, List, Option, Some, None, IfSome, slice_set, Result, Ok, Err}
 use Rattle.std.specs.Bool.{MatchBool}
-use Rattle.std.specs.Option.{IsSomeAnd, option_map}
+use Rattle.std.specs.Option.{option_map}
 use Rattle.std.proofs.lemmas.Bool.Decides.{eqb_tells}
 use Rattle.host_mem.specs.Memory.{Memory}
 use Rattle.bus_link.specs.Link.{Call, is_poll}
@@ -19,11 +19,11 @@ use Rattle.cq_task.specs.declared.slot.DropCause.{DropCause}
 use Rattle.cq_task.specs.declared.slot.SlotTask.{SlotTask}
 use Rattle.cq_task.specs.declared.slot.SlotTask.TheVariants.{Direct as DirectTask, Data}
 use Rattle.cq_regs.specs.declared.slots.Progress.{Progress}
-use Rattle.cq_regs.specs.declared.slots.Progress.TheVariants.{Idle, Rung, Named, Sent, Ready, Active}
+use Rattle.cq_regs.specs.declared.slots.Progress.TheVariants.{Rung, Named, Ready, Active}
 use Rattle.cq_regs.specs.declared.slots.Ringed.{Ringed}
 use Rattle.cq_regs.specs.State.{Registers}
 use Rattle.cq_regs.specs.Slots.{advanced, has_bit, made_ready, progress_of, readied, without}
-use Rattle.cq_regs.specs.Effects.{completed, moved_on, ticked_in}
+use Rattle.cq_regs.specs.Effects.{moved_on}
 use Rattle.cq_regs.proofs.ProgressLaws.{progress_made_ready}
 use Rattle.cq_schedule.specs.declared.held.HeldTask.{HeldTask}
 use Rattle.cq_schedule.specs.declared.rules.Due.{Due}
@@ -35,8 +35,8 @@ use Rattle.cq_schedule.proofs.Progresses.{same-true}
 use Rattle.piece_data.specs.Data.{block_of}
 use Rattle.cq_engine.specs.declared.did.Did.TheVariants.{Finished, Sent as SentCommand}
 use Rattle.cq_engine.specs.Words.{direct_of, execute_of, has_error, is_masked, params_of, poll_of}
-use Rattle.cq_engine.specs.Outcome.{Host, Outcome, heard, judged, responded, stop, stopped_with, with_regs, word_in}
-use Rattle.cq_engine.specs.After.{addressed, after_block, after_close, after_command, direct_done, direct_ended, direct_heard, executed, finished, led_on, named, phase_ended, polled}
+use Rattle.cq_engine.specs.Outcome.{Host, Outcome, heard, judged, responded, stopped_with, with_regs, word_in}
+use Rattle.cq_engine.specs.After.{addressed, after_block, after_command, direct_done, direct_ended, direct_heard, executed, finished, led_on, named, phase_ended, polled}
 use Rattle.cq_engine.specs.Event.{Acts, Does, Gives, Serves, Takes}
 use Rattle.cq_engine.specs.Holds.{AreCounted, IsCounted}
 use Rattle.cq_engine.proofs.Events.{some_task}

@@ -1,5 +1,5 @@
 -- An engine with registers of which no slot is rung, and that say no stop.
-use Rattle.std.proofs.Common.{◌≡◌, true, false, sym, ◌∙◌, ap}
+use Rattle.std.proofs.Common.{◌≡◌, false, sym, ◌∙◌, ap}
 use Rattle.std.specs.Prelude.{List, [], Option}
 use Rattle.std.proofs.lemmas.Bool.{false≢true}
 use Rattle.bus_link.specs.declared.link.Cause.{Cause}

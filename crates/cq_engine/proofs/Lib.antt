@@ -4,6 +4,7 @@ pub mod Events
 pub mod Fresh
 pub mod Keeping
 pub mod Lying
+pub mod Opening
 pub mod Outcomes
 pub mod Places
 pub mod SlotLaws

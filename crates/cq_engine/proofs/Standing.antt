@@ -1,8 +1,7 @@
 -- What each step of an event makes of the slots, of the completed tasks and of what a driver set up.
-use Rattle.std.proofs.Common.{◌≡◌, ◌<◌, ◌==◌, ◌&&◌, ℕ, refl, sym, ◌∙◌, ap, subst, inl, inr}
-use Rattle.std.specs.Prelude.{◌^◌, Bool, true, false, not, cond, List, [], ◌∷◌, Option, Some, None, Result, Ok, Err}
+use Rattle.std.proofs.Common.{◌≡◌, ◌<◌, ◌==◌, ◌&&◌, ℕ, refl, sym, ◌∙◌, subst}
+use Rattle.std.specs.Prelude.{◌^◌, Bool, true, false, not, cond, List, [], ◌∷◌, Some, None, Result, Ok, Err}
 use Rattle.std.specs.Bool.{MatchBool}
-use Rattle.std.specs.Option.{IsSomeAnd}
 use Rattle.std.specs.Int.RustNames.{bit_or}
 use Rattle.host_mem.specs.Memory.{Memory}
 use Rattle.bus_link.specs.Link.{Call, is_poll}
@@ -21,19 +20,18 @@ use Rattle.cq_task.specs.declared.slot.SlotTask.TheVariants.{Direct as DirectTas
 use Rattle.cq_regs.specs.declared.slots.Progress.TheVariants.{Rung, Named, Ready}
 use Rattle.cq_regs.specs.declared.slots.Ringed.{Ringed}
 use Rattle.cq_regs.specs.State.{Registers}
-use Rattle.cq_regs.specs.Slots.{advanced, has_bit, moved_at, next, progress_of, without}
+use Rattle.cq_regs.specs.Slots.{advanced, has_bit, next, progress_of, without}
 use Rattle.cq_regs.specs.Coalesce.{counted, reaches, restarted, ticked}
 use Rattle.cq_regs.specs.Effects.{completed, counted_in, moved_on, noticed_if, notified, raised, task_complete, ticked_in, with_coalescing}
-use Rattle.cq_schedule.specs.declared.held.HeldTask.{HeldTask}
 use Rattle.cq_schedule.specs.declared.rules.Due.{Due}
 use Rattle.cq_schedule.specs.declared.rules.Due.TheVariants.{Rest, Block as NextBlock, Close, Address as AddressNext, Serve, Execute, Poll, Tick}
 use Rattle.cq_schedule.specs.Held.{held_at}
 use Rattle.cq_schedule.specs.Meaning.{HasItsSlot}
 use Rattle.piece_data.specs.Data.{block_of}
-use Rattle.cq_engine.specs.declared.did.Did.TheVariants.{Sent, Direct, Finished}
+use Rattle.cq_engine.specs.declared.did.Did.TheVariants.{Sent, Finished}
 use Rattle.cq_engine.specs.Words.{command_error, data_error, direct_of, execute_of, has_error, is_masked, params_of, poll_of}
 use Rattle.cq_engine.specs.Outcome.{Host, Outcome, heard, judged, responded, stop, stopped_with, with_regs, word_in}
-use Rattle.cq_engine.specs.After.{addressed, after_block, after_close, after_command, direct_done, direct_ended, direct_heard, executed, finished, led_on, named, phase_ended, polled}
+use Rattle.cq_engine.specs.After.{addressed, after_block, after_command, direct_done, direct_ended, direct_heard, executed, finished, led_on, named, phase_ended, polled}
 use Rattle.cq_engine.specs.Event.{Acts, Does, Gives, Serves, Takes}
 use Rattle.cq_engine.specs.Standings.{MovesBy, completed_by, set_up_of}
 use Rattle.cq_engine.proofs.Events.{some_task}

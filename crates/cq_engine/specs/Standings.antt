@@ -1,11 +1,12 @@
 -- What an event makes of the slots, of the completed tasks and of what a driver set up, by what it did (host interface annex of
 -- JESD84-B51).
-use Rattle.std.specs.Prelude.{◌≡◌, ◌<◌, ◌^◌, ℕ, Bool}
+use Rattle.std.specs.Prelude.{◌≡◌, ◌<◌, ◌^◌, ℕ, Bool, true, false, List}
 use Rattle.std.specs.Int.RustNames.{bit_or}
 use Rattle.cmd_words.specs.declared.command.Command.{Command}
 use Rattle.cmd_words.specs.declared.command.Command.TheVariants.{Params, Address, Execute}
 use Rattle.cq_regs.specs.declared.slots.Progress.{Progress}
-use Rattle.cq_regs.specs.declared.slots.Progress.TheVariants.{Rung, Named, Ready}
+use Rattle.cq_regs.specs.declared.slots.Progress.TheVariants.{Rung, Named, Ready, Active}
+use Rattle.cq_regs.specs.declared.slots.Ringed.{Ringed}
 use Rattle.cq_regs.specs.State.{Registers}
 use Rattle.cq_regs.specs.Slots.{advanced, made_ready, progress_of, without}
 use Rattle.cq_engine.specs.declared.did.Did.{Did}
@@ -37,6 +38,16 @@ MovesBy (Direct slot) old new = new.ring ≡ without old.ring slot
 MovesBy (Finished slot) old new = new.ring ≡ without old.ring slot
 MovesBy (Dropped slot why) old new = new.ring ≡ without old.ring slot
 MovesBy _ old new = new.ring ≡ old.ring
+
+-- between its CMD44 and its CMD45, or in its data phase
+abbrev pub is_open : Progress → Bool
+is_open Named = true
+is_open Active = true
+is_open _ = false
+
+-- one slot is open at most
+abbrev pub OneOpen : List Ringed → Type 0
+OneOpen ring = (a b : ℕ) → is_open (progress_of ring a) ≡ true → is_open (progress_of ring b) ≡ true → a ≡ b
 
 -- the tasks that are notified as complete, in the register CQTCN
 abbrev pub completed_by : Did → ℕ → ℕ

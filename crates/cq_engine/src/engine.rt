@@ -41,7 +41,7 @@ impl Engine {
     ghost use Rattle.cq_engine.specs.Event.{Event};
     ghost use Rattle.cq_engine.specs.Holds.{Holds};
     ghost use Rattle.cq_engine.specs.Outcome.{holds_nothing};
-    ghost use Rattle.cq_engine.specs.Standings.{MovesBy, completed_by, set_up_of};
+    ghost use Rattle.cq_engine.specs.Standings.{MovesBy, OneOpen, completed_by, set_up_of};
 
     /// An engine that holds no task. It takes all its memory here.
     ///
@@ -111,7 +111,9 @@ impl Engine {
         ensures slots { MovesBy result regs.old regs.new }
         ensures done { regs.new.completed ≡ completed_by result regs.old.completed }
         ensures set_up { set_up_of regs.new ≡ set_up_of regs.old }
+        // no more blocks are counted of a task than it has, and one slot at most is open
         ensures counts { AreCounted self.old.held → AreCounted self.new.held }
+        ensures one { OneOpen regs.old.ring → OneOpen regs.new.ring }
     {
         regs.keeps_ring();
         self.held.forget(regs);

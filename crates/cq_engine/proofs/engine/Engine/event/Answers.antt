@@ -12,6 +12,7 @@ use Rattle.cq_engine.proofs.Counting.{acts_count, counted_left, tallied_kept}
 use Rattle.cq_engine.proofs.Events.{acts_keeps, caused, holding_is}
 use Rattle.cq_engine.proofs.Keeping.{holds_has}
 use Rattle.cq_engine.proofs.Lying.{lie_noted, lie_remembered, lie_same}
+use Rattle.cq_engine.proofs.Opening.{acts_one}
 use Rattle.cq_engine.proofs.Outcomes.{Keeps}
 use Rattle.cq_engine.proofs.Places.{length-remembered}
 use Rattle.cq_engine.proofs.Standing.{Follows, acts_follow}
@@ -95,3 +96,8 @@ returns-clause-counts g c counted =
     (outcome_of c.act-did.result c.act-did.new.held c.act-did.new.regs) long
     (tallied_kept c.self.inside.held c.forget.new.self c.args.regs.now c.forget.ensures.each (subst P (sym (held_is g c)) counted))
     c.act-did.ensures.acts)
+
+pub returns-clause-one : goal.returns-clause-one
+returns-clause-one g c one =
+    acts_one g.L.Link.made c.args.link.now c.act-did.new.link (host_of c.forget.new.self c.args.regs.now) c.args.mem.now c.act-did.new.mem
+    (outcome_of c.act-did.result c.act-did.new.held c.act-did.new.regs) c.keeps_ring.ensures.ring c.act-did.ensures.acts one
