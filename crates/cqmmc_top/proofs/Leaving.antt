@@ -72,6 +72,11 @@ cleared_other page block (Some pages) new behind is cleared =
 pub cleared_torn : (page : ℕ) (block : Block) (told new : Option (List Block)) → 1 ≤ page → IsTorn told page block new → IsCleared told → IsCleared new
 cleared_torn page block told new behind torn cleared = cleared_other page torn.left told new behind torn.told cleared
 
+-- a page that is new as a whole is a mix of which each granule is new
+pub torn_whole : (page : ℕ) (block : Block) (told new : Option (List Block)) → new ≡ with_page told page block → IsTorn told page block new
+torn_whole page block None new is = record { left = block; mix = tt; told = is }
+torn_whole page block (Some pages) new is = record { left = block; mix = record { each = λ k below. inr refl }; told = is }
+
 -- nothing was written, or the first page alone
 pub left_same : (sectors : ℕ) (told : Option (List Block)) → IsLeft sectors told told
 left_same sectors None = tt

@@ -1,5 +1,6 @@
 pub mod Beginning
 pub mod Forms
+pub mod Imaging
 pub mod Leaving
 pub mod Listed
 pub mod Making

@@ -69,6 +69,8 @@ module _ (sectors : ℕ) (super gate : Block) (is_super : IsSuper super (record 
       record {
         image = IsImage-forms made (record { version = 1; sectors = sectors }) Shut s g wide;
         count = count;
+        shut = shut;
+        unused = λ k low high. get_or-set_other pages 0 k super blank (λ e. omega arith) ∙ blanked.blank k low (omega arith);
         zeros = shown-shut made shut ∙ zeros_stored sectors made count wide (λ k below. get_or-set_other pages 0 (8 + k) super blank (λ e. omega arith) ∙ blanked.blank (8 + k) (omega arith) (omega arith));
       }
 

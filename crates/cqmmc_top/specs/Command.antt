@@ -1,5 +1,5 @@
 -- What a command answers: its status, what it wrote, and what the image shows then.
-use Rattle.std.specs.Prelude.{◌≡◌, ◌⊎◌, ℕ, ◌+◌, ◌≤◌, List, [], ◌∷◌, ◌++◌, decimal, length, Option, IfSome, Result, codes, Some, None, position}
+use Rattle.std.specs.Prelude.{◌≡◌, ◌⊎◌, ℕ, ◌+◌, ◌≤◌, List, [], ◌∷◌, ◌++◌, decimal, length, Option, IfSome, OnOk, Result, codes, Some, None, position, Bool, true, false}
 use Rattle.storage_model.specs.Count.{Count, Rose}
 use Rattle.storage_model.specs.declared.ends.Halt.{Halt}
 use Rattle.storage_model.specs.declared.plan.Plan.{Plan}
@@ -53,6 +53,16 @@ IsCommand ExtCsd words = IsExtCsd words
 IsCommand (New sectors) words = IsNew sectors words
 IsCommand Raw words = IsRaw words
 
+-- `run` and `raw` read a first text, and `run` a second one
+abbrev pub reads_first : Option Command → Bool
+reads_first (Some Run) = true
+reads_first (Some Raw) = true
+reads_first _ = false
+
+abbrev pub reads_second : Option Command → Bool
+reads_second (Some Run) = true
+reads_second _ = false
+
 -- an image that is to be made has a number of sectors that an image may have
 abbrev pub IsMakeable : Command → Type 0
 IsMakeable (New sectors) = (1 ≤ sectors) × (sectors ≤ 65536)
@@ -72,19 +82,22 @@ module _ {K : Type 0} (took : K → List ℕ → K → Type 0) (faults_of : K �
     pub shown : shown_by new ≡ shown_by old
     pub kept : ShowsImage old → ShowsImage new
 
-  -- the requests of a plan were served: the status says how that ended, the lines are the machine's from what the image
-  -- showed on, and what it shows then is the machine's contents or near them
+  -- the requests of a plan were served on an image, and the pages are an image at the end, however it came: the status says how
+  -- that ended, the lines are the machine's from what the image showed on, and what it shows then is the machine's contents or
+  -- near them. A run that ended well leaves all of it settled
   pub record IsServed (requests faults : Option (List ℕ)) (old new : ArrayState) (out : K) (status : ℕ) (out' : K) : Type 0 where
     pub plan : Plan
     pub means : IsPlanOf requests plan
     pub no_faults : HasNoFaults faults
     pub image : ShowsImage old
+    pub kept : ShowsImage new
     pub sectors : ℕ
     pub has_sectors : HasSectors old sectors
     pub inside : position (is_past sectors) plan.jobs ≡ None
     pub result : Result (Unit {0}) Halt
     pub is : status ≡ run_status result
     pub served : IfSome (shown_by old) (λ base. Served took plan.blocks out (start base plan.jobs) result (shown_by new) out' (ended (after_jobs plan.blocks base plan.jobs) (length plan.jobs + 1)))
+    pub settled : OnOk result (new.settled ≡ true)
     pub cause : HasCause (faults_of out) (faults_of out') old new result
 
   -- a run is refused, or its requests are served
@@ -123,10 +136,11 @@ module _ {K : Type 0} (took : K → List ℕ → K → Type 0) (faults_of : K �
     pub left : IsLeft sectors old.told new.told
     pub says : Says took faults_of refusal out status out'
 
-  -- an image of zero sectors was made
+  -- an image of zero sectors was made, and is settled
   pub record IsMade (sectors : ℕ) (old new : ArrayState) (out : K) (status : ℕ) (out' : K) : Type 0 where
     pub room : 8 + sectors ≤ old.count
     pub made : IfSome new.told (IsZeroImage sectors)
+    pub settled : new.settled ≡ true
     pub lists : Lists (codes "new " ++ decimal sectors ++ codes "\n") out status out'
 
   abbrev pub MakeAnswers : ℕ → ArrayState → ArrayState → K → ℕ → K → Type 0

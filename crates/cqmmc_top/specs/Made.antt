@@ -3,17 +3,20 @@ use Rattle.std.specs.Prelude.{◌≡◌, ◌⊎◌, ℕ, ◌+◌, ◌<◌, ◌�
 use Rattle.storage_model.specs.Count.{Later, Rose}
 use Rattle.storage_model.specs.declared.block.Block.{Block}
 use Rattle.array_edge.specs.Array.{ArrayState, page_at}
-use Rattle.image_form.specs.Image.{IsImage, sectors_of, shown}
+use Rattle.image_form.specs.Image.{IsImage, gate_at, sectors_of, shown}
+use Rattle.image_form.specs.declared.gate.Gate.TheVariants.{Shut}
 use Rattle.cqmmc_top.specs.declared.refusal.Refusal.{Refusal}
 use Rattle.cqmmc_top.specs.declared.refusal.Refusal.TheVariants.{BadImage, ArrayFault, NoPower}
 
 abbrev pub zero_block : Block
 zero_block = record { 0 = replicate 512 0 }
 
--- the pages are an image of so many sectors, and it shows zeros
+-- the pages are an image of so many sectors, its gate is shut, it shows zeros, and so are the pages between gate and sectors
 pub record IsZeroImage (sectors : ℕ) (pages : List Block) : Type 0 where
   pub image : IsImage pages
   pub count : sectors_of pages ≡ sectors
+  pub shut : gate_at pages ≡ Shut
+  pub unused : (page : ℕ) → 2 ≤ page → page < 8 → page_at pages page ≡ zero_block
   pub zeros : shown pages ≡ replicate sectors zero_block
 
 -- the pages from `first` up to `last` are zeros, and those before as they were
@@ -41,10 +44,10 @@ pub record Makes (old new : ArrayState) (result : Result (Unit {0}) Refusal) : T
   pub cuts : Later old.cuts new.cuts
   pub refused : IfErr result (CallRefused old new)
 
--- why no image was made: the array has too few pages, and is left as it was, or it failed or was cut
+-- why no image was made: the array has too few pages, and is left as it was, or it has enough of them, and failed or was cut
 abbrev pub MakingRefused : ℕ → ArrayState → ArrayState → Refusal → Type 0
 MakingRefused sectors old new BadImage = (old.count < 8 + sectors) × (new ≡ old)
-MakingRefused sectors old new refusal = CallRefused old new refusal
+MakingRefused sectors old new refusal = (8 + sectors ≤ old.count) × CallRefused old new refusal
 
 -- the first page is zeros
 abbrev pub IsCleared : Option (List Block) → Type 0

@@ -1,5 +1,5 @@
 // The words of the program, and the command that they call.
-ghost use Rattle.std.specs.Prelude.{◌≡◌, ◌+◌, ◌≤◌, decimal, ℕ, List, Option, All, IfSome, IfNone, IsTrue, ◌↔◌, map, string_bytes, vec_len};
+ghost use Rattle.std.specs.Prelude.{◌≡◌, ◌+◌, ◌≤◌, decimal, drop, false, ℕ, [], List, Option, All, IfSome, IfNone, IsTrue, ◌↔◌, map, string_bytes, vec_len};
 ghost use Rattle.storage_model.specs.Plan.{IsValidPlan};
 ghost use Rattle.array_edge.specs.Array.{ArrayState};
 ghost use Rattle.script_text.specs.Requests.{HasDefaults};
@@ -8,7 +8,7 @@ ghost use Rattle.cqmmc_top.specs.Opened.{IsOpen};
 ghost use Rattle.cqmmc_top.specs.Serial.{IsServable};
 ghost use Rattle.cqmmc_top.specs.declared.command.Command.{Command as CommandOf};
 ghost use Rattle.cqmmc_top.specs.declared.command.Command.TheVariants.{New as NewOf};
-ghost use Rattle.cqmmc_top.specs.Command.{Answers, IsCall, IsCommand, IsMakeable, IsNew, IsServed, ListAnswers, MakeAnswers, RunAnswers};
+ghost use Rattle.cqmmc_top.specs.Command.{Answers, IsCall, IsCommand, IsMakeable, IsNew, IsRaw, IsRun, IsServed, ListAnswers, MakeAnswers, RunAnswers, reads_first, reads_second};
 ghost use Rattle.cqmmc_top.specs.Refusal.{Says};
 
 use crate::listing::put_csd;
@@ -52,8 +52,21 @@ pub fn new_pages(words: &[String]) -> Option<u32>
     }
 }
 
+/// The words that name the command's texts: those behind the image, of `run` and `raw` alone.
+pub fn text_words(words: &[String]) -> &[String]
+    ensures run { IsRun (map string_bytes words.now) → result.now ≡ drop 2 words.now }
+    ensures raw { IsRaw (map string_bytes words.now) → result.now ≡ drop 2 words.now }
+    ensures none { (IsRun (map string_bytes words.now) → ⊥) → (IsRaw (map string_bytes words.now) → ⊥) → result.now ≡ [] }
+{
+    match words {
+        [command, _, _, _] if is_word(command, "run") => &words[2..],
+        [command, _, _] if is_word(command, "raw") => &words[2..],
+        _ => &[],
+    }
+}
+
 /// Runs the command that the words call, over an array, three sources for its texts and a sink for its lines, and gives
-/// back the exit status and the array.
+/// back the exit status and the array. The first text is read for `run` and `raw` alone, the second for `run` alone.
 pub fn run_command<A: Array, S1: Source, S2: Source, S3: Source, K: Sink>(
     alloc: Global,
     words: &[String],
@@ -64,6 +77,8 @@ pub fn run_command<A: Array, S1: Source, S2: Source, S3: Source, K: Sink>(
     out: &mut K,
 ) -> (u8, A)
     ensures answers { Answers K.took K.faults (map string_bytes words.now) (S1.left first.old) (S1.faults first.old) (S1.faults first.new) (S2.left second.old) (S2.faults second.old) (S2.faults second.new) (A.state array) (A.state result.1) out.old result.0 out.new }
+    ensures first { (IsRun (map string_bytes words.now) → ⊥) → (IsRaw (map string_bytes words.now) → ⊥) → first.new ≡ first.old }
+    ensures second { (IsRun (map string_bytes words.now) → ⊥) → second.new ≡ second.old }
     ensures third { third.new ≡ third.old }
 {
     let _ = third;
@@ -81,7 +96,9 @@ fn carry_out<A: Array, S1: Source, S2: Source, K: Sink>(
     out: &mut K,
 ) -> u8
     requires makeable { IfSome command IsMakeable }
-    ensures { (words : List (List ℕ)) → IsCall command words → Answers K.took K.faults words (S1.left first.old) (S1.faults first.old) (S1.faults first.new) (S2.left second.old) (S2.faults second.old) (S2.faults second.new) (A.state array.old) (A.state array.new) out.old result out.new }
+    ensures answers { (words : List (List ℕ)) → IsCall command words → Answers K.took K.faults words (S1.left first.old) (S1.faults first.old) (S1.faults first.new) (S2.left second.old) (S2.faults second.old) (S2.faults second.new) (A.state array.old) (A.state array.new) out.old result out.new }
+    ensures first { reads_first command ≡ false → first.new ≡ first.old }
+    ensures second { reads_second command ≡ false → second.new ≡ second.old }
 {
     match command {
         None => refuse(Refusal::Usage, out),

@@ -14,4 +14,4 @@ mod run;
 mod serve;
 mod texts;
 
-pub use command::{new_pages, run_command};
+pub use command::{new_pages, run_command, text_words};

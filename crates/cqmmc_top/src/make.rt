@@ -12,12 +12,13 @@ use storage_model::Block;
 const ZEROS: Block = Block([0; 512]);
 
 /// Makes an image of zero sectors: page 0 is cleared, the other pages are written, and when all this is durable the
-/// superblock makes it an image.
+/// superblock makes it an image, which is durable too.
 pub fn make_image<A: Array>(sectors: u32, array: &mut A) -> Result<(), Refusal>
     requires some { 1 ≤ sectors }
     requires most { sectors ≤ 65536 }
     ensures made { OnOk result (IfSome (A.state array.new).told (IsZeroImage sectors)) }
     ensures room { OnOk result (8 + sectors ≤ (A.state array.old).count) }
+    ensures settled { OnOk result ((A.state array.new).settled ≡ true) }
     ensures refused { IfErr result (MakingRefused sectors (A.state array.old) (A.state array.new)) }
     ensures left { IsLeft sectors (A.state array.old).told (A.state array.new).told }
     ensures faults { Later (A.state array.old).faults (A.state array.new).faults }
@@ -35,7 +36,7 @@ pub fn make_image<A: Array>(sectors: u32, array: &mut A) -> Result<(), Refusal>
         version: 1,
         sectors,
     });
-    program_page(0, &superblock, array)
+    program_settled(0, &superblock, array)
 }
 
 // Writes zeros to the pages from `first` up to `last`, without it.
@@ -69,9 +70,24 @@ fn program_page<A: Array>(page: u32, block: &Block, array: &mut A) -> Result<(),
     }
 }
 
+// Programs a page, and makes it durable. Where that fails the page may be new as a whole.
+#[tactic(auto, using(crate::proofs::Leaving::torn_whole))]
+fn program_settled<A: Array>(page: u32, block: &Block, array: &mut A) -> Result<(), Refusal>
+    requires within { page < (A.state array.old).count }
+    requires on { (A.state array.old).powered ≡ true }
+    ensures written { OnOk result ((A.state array.new).told ≡ with_page (A.state array.old).told page block.now) }
+    ensures torn { OnErr result (IsTorn (A.state array.old).told page block.now (A.state array.new).told) }
+    ensures settled { OnOk result ((A.state array.new).settled ≡ true) }
+    ensures makes { Makes (A.state array.old) (A.state array.new) result }
+{
+    program_page(page, block, array)?;
+    settle(array)
+}
+
 fn settle<A: Array>(array: &mut A) -> Result<(), Refusal>
     requires { (A.state array.old).powered ≡ true }
     ensures same { (A.state array.new).told ≡ (A.state array.old).told }
+    ensures settled { OnOk result ((A.state array.new).settled ≡ true) }
     ensures makes { Makes (A.state array.old) (A.state array.new) result }
 {
     match array.settle() {

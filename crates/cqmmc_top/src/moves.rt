@@ -1,10 +1,10 @@
 // The sectors of a request, moved in order.
-ghost use Rattle.std.specs.Prelude.{◌≡◌, ◌+◌, ◌<◌, ◌≤◌, List, length, IfErr, IfSome, OnOk};
+ghost use Rattle.std.specs.Prelude.{◌≡◌, ◌+◌, ◌<◌, ◌≤◌, true, List, length, IfErr, IfSome, OnOk};
 ghost use Rattle.std.specs.Option.{IsSomeAnd};
 ghost use Rattle.storage_model.specs.Plan.{IsFillListed};
 ghost use Rattle.storage_model.specs.declared.block.Block.{Block as BlockBytes};
 ghost use Rattle.cqmmc_top.specs.Moves.{Wrote, WroteSome, HasCause};
-ghost use Rattle.intent_store.specs.Intent.{StoreEnds, shown_by};
+ghost use Rattle.intent_store.specs.Intent.{ShowsImage, StoreEnds, shown_by};
 ghost use Rattle.cqmmc_top.specs.Opened.{IsOpen};
 ghost use Rattle.cqmmc_top.specs.Serial.{sectors_at};
 
@@ -20,10 +20,13 @@ pub struct Broken {
 }
 
 /// Makes what was written durable.
+#[tactic(auto, using(crate::proofs::Imaging::same_shows))]
 pub fn settle<A: Array>(intent: &Intent, array: &mut A) -> Result<(), StoreEnd>
     requires { IsOpen intent.now (A.state array.old) }
     ensures same { (A.state array.new).told ≡ (A.state array.old).told }
+    ensures settled { OnOk result ((A.state array.new).settled ≡ true) }
     ensures open { OnOk result (IsOpen intent.now (A.state array.new)) }
+    ensures image { ShowsImage (A.state array.new) }
     ensures ends { StoreEnds (A.state array.old) (A.state array.new) result }
 {
     let _ = intent;
@@ -35,6 +38,7 @@ pub fn settle<A: Array>(intent: &Intent, array: &mut A) -> Result<(), StoreEnd>
 }
 
 /// Reads the sectors from `first` on into `values`.
+#[tactic(auto, using(crate::proofs::Imaging::same_shows))]
 pub fn read_all<A: Array>(
     intent: &mut Intent,
     first: u32,
@@ -48,6 +52,7 @@ pub fn read_all<A: Array>(
     ensures same { (A.state array.new).told ≡ (A.state array.old).told }
     ensures sectors { intent.new.sectors ≡ intent.old.sectors }
     ensures open { OnOk result (IsOpen intent.new (A.state array.new)) }
+    ensures image { ShowsImage (A.state array.new) }
     ensures fewer { IfErr result (λ broken. broken.count < length values.old) }
     ensures cause { HasCause (A.state array.old) (A.state array.new) result }
 {
@@ -76,7 +81,9 @@ pub fn write_all<A: Array>(
     requires open { IsOpen intent.old (A.state array.old) }
     ensures written { OnOk result (Wrote (A.state array.old) first plan.now.blocks fill count (A.state array.new)) }
     ensures sectors { intent.new.sectors ≡ intent.old.sectors }
+    ensures settled { OnOk result ((A.state array.new).settled ≡ true) }
     ensures open { OnOk result (IsOpen intent.new (A.state array.new)) }
+    ensures image { ShowsImage (A.state array.new) }
     ensures some { IfErr result (λ broken. WroteSome (A.state array.old) first plan.now.blocks fill count broken.count (A.state array.new)) }
     ensures cause { HasCause (A.state array.old) (A.state array.new) result }
 {
@@ -87,6 +94,7 @@ pub fn write_all<A: Array>(
     }
 }
 
+#[tactic(auto, using(crate::proofs::Imaging::open_shows, crate::proofs::Imaging::intent_shows))]
 fn program_all<A: Array>(
     intent: &mut Intent,
     first: u32,
@@ -102,6 +110,7 @@ fn program_all<A: Array>(
     ensures written { OnOk result (Wrote (A.state array.old) first plan.now.blocks fill count (A.state array.new)) }
     ensures sectors { intent.new.sectors ≡ intent.old.sectors }
     ensures open { OnOk result (IsOpen intent.new (A.state array.new)) }
+    ensures image { ShowsImage (A.state array.new) }
     ensures some { IfErr result (λ broken. WroteSome (A.state array.old) first plan.now.blocks fill count broken.count (A.state array.new)) }
     ensures cause { HasCause (A.state array.old) (A.state array.new) result }
 {

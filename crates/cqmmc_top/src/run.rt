@@ -1,9 +1,9 @@
 // All requests of a plan, one after the other.
-ghost use Rattle.std.specs.Prelude.{◌≡◌, ◌+◌, ◌≤◌, [], All, List, ℕ, Option, Some, length, OnOk};
+ghost use Rattle.std.specs.Prelude.{◌≡◌, ◌+◌, ◌≤◌, [], All, List, ℕ, Option, Some, length, true, OnOk};
 ghost use Rattle.std.specs.Option.{IsSomeAnd};
 ghost use Rattle.storage_model.specs.Plan.{IsValidJob, blocks_of};
 ghost use Rattle.storage_model.specs.declared.block.Block.{Block as Contents};
-ghost use Rattle.intent_store.specs.Intent.{shown_by};
+ghost use Rattle.intent_store.specs.Intent.{ShowsImage, shown_by};
 ghost use Rattle.cqmmc_top.specs.Opened.{IsOpen};
 ghost use Rattle.cqmmc_top.specs.Print.{HasCause, Served};
 ghost use Rattle.cqmmc_top.specs.Serial.{after_jobs, issuing, ended, start, IsServable};
@@ -18,6 +18,7 @@ use storage_model::{Block, End, Halt, Item, Plan};
 
 /// Prints the first line, serves the requests in their order, and makes everything durable at the end. `buffer` has room
 /// for the sectors of each request.
+#[tactic(auto, using(crate::proofs::Imaging::open_shows))]
 pub fn run_plan<A: Array, K: Sink>(
     plan: &Plan,
     intent: &mut Intent,
@@ -31,6 +32,8 @@ pub fn run_plan<A: Array, K: Sink>(
     requires lines { plan.now.lines ≡ 64 }
     requires open { IsOpen intent.old (A.state array.old) }
     ensures served { (base : List Contents) → shown_by (A.state array.old) ≡ Some base → Served K.took plan.now.blocks out.old (start base plan.now.jobs) result (shown_by (A.state array.new)) out.new (ended (after_jobs plan.now.blocks base plan.now.jobs) (length plan.now.jobs + 1)) }
+    ensures image { ShowsImage (A.state array.new) }
+    ensures settled { OnOk result ((A.state array.new).settled ≡ true) }
     ensures cause { HasCause (K.faults out.old) (K.faults out.new) (A.state array.old) (A.state array.new) result }
 {
     let first = Item::Card {
@@ -43,6 +46,7 @@ pub fn run_plan<A: Array, K: Sink>(
     finish(intent, array, out)
 }
 
+#[tactic(auto, using(crate::proofs::Imaging::open_shows))]
 fn serve_jobs<A: Array, K: Sink>(
     plan: &Plan,
     intent: &mut Intent,
@@ -56,6 +60,7 @@ fn serve_jobs<A: Array, K: Sink>(
     ensures served { (base : List Contents) → shown_by (A.state array.old) ≡ Some base → Served K.took plan.now.blocks out.old (issuing base 1 plan.now.jobs) result (shown_by (A.state array.new)) out.new (issuing (after_jobs plan.now.blocks base plan.now.jobs) (length plan.now.jobs + 1) []) }
     ensures sectors { intent.new.sectors ≡ intent.old.sectors }
     ensures open { OnOk result (IsOpen intent.new (A.state array.new)) }
+    ensures image { ShowsImage (A.state array.new) }
     ensures cause { HasCause (K.faults out.old) (K.faults out.new) (A.state array.old) (A.state array.new) result }
 {
     let jobs = plan.jobs.as_slice();
@@ -69,6 +74,8 @@ fn serve_jobs<A: Array, K: Sink>(
 fn finish<A: Array, K: Sink>(intent: &mut Intent, array: &mut A, out: &mut K) -> Result<(), Halt>
     requires { IsOpen intent.old (A.state array.old) }
     ensures served { (blocks base : List Contents) (id : ℕ) → shown_by (A.state array.old) ≡ Some base → Served K.took blocks out.old (issuing base id []) result (shown_by (A.state array.new)) out.new (ended base id) }
+    ensures image { ShowsImage (A.state array.new) }
+    ensures settled { OnOk result ((A.state array.new).settled ≡ true) }
     ensures cause { HasCause (K.faults out.old) (K.faults out.new) (A.state array.old) (A.state array.new) result }
 {
     match settle(intent, array) {

@@ -6,7 +6,7 @@ ghost use Rattle.storage_model.specs.declared.block.Block.{Block as Contents};
 ghost use Rattle.storage_model.specs.declared.plan.Fill.{Fill as FillOf};
 ghost use Rattle.storage_model.specs.declared.plan.Job.{Job as Request};
 ghost use Rattle.storage_model.specs.declared.plan.Job.TheVariants.{Read as ReadJob, Write as WriteJob};
-ghost use Rattle.intent_store.specs.Intent.{shown_by};
+ghost use Rattle.intent_store.specs.Intent.{ShowsImage, shown_by};
 ghost use Rattle.cqmmc_top.specs.Opened.{IsOpen};
 ghost use Rattle.cqmmc_top.specs.Print.{HasCause, Served, IsHalt, IsSinkCause, EndsLine};
 ghost use Rattle.cqmmc_top.specs.Serial.{Serial, showing, answered, issuing, moving, sectors_at, moved, next_put, after_job, IsBroken, IsNearBase, IsPlain};
@@ -19,6 +19,7 @@ use io_edge::Sink;
 use storage_model::{Block, End, Fill, Halt, Item, Job, Plan};
 
 /// Serves one request. `id` is its number, and `buffer` has room for its sectors.
+#[tactic(auto, using(crate::proofs::Imaging::open_shows))]
 pub fn serve<A: Array, K: Sink>(
     id: u32,
     job: &Job,
@@ -35,6 +36,7 @@ pub fn serve<A: Array, K: Sink>(
     ensures served { (base : List Contents) (jobs : List Request) → shown_by (A.state array.old) ≡ Some base → Served K.took plan.now.blocks out.old (issuing base id (job.now ∷ jobs)) result (shown_by (A.state array.new)) out.new (issuing (after_job plan.now.blocks base job.now) (id + 1) jobs) }
     ensures sectors { intent.new.sectors ≡ intent.old.sectors }
     ensures open { OnOk result (IsOpen intent.new (A.state array.new)) }
+    ensures image { ShowsImage (A.state array.new) }
     ensures cause { HasCause (K.faults out.old) (K.faults out.new) (A.state array.old) (A.state array.new) result }
 {
     print(&Item::Issue { id, tag: 0 }, out)?;
@@ -67,6 +69,7 @@ fn serve_read<A: Array, K: Sink>(
     ensures served { (blocks base : List Contents) (high : Bool) (jobs : List Request) → shown_by (A.state array.old) ≡ Some base → Served K.took blocks out.old (moving base id (ReadJob first (length values.old) high ∷ jobs)) result (shown_by (A.state array.new)) out.new (issuing base (id + 1) jobs) }
     ensures sectors { intent.new.sectors ≡ intent.old.sectors }
     ensures open { OnOk result (IsOpen intent.new (A.state array.new)) }
+    ensures image { ShowsImage (A.state array.new) }
     ensures cause { HasCause (K.faults out.old) (K.faults out.new) (A.state array.old) (A.state array.new) result }
 {
     match read_all(intent, first, values, array) {
@@ -92,6 +95,7 @@ fn serve_write<A: Array, K: Sink>(
     ensures served { (base : List Contents) (forced reliable high : Bool) (jobs : List Request) → shown_by (A.state array.old) ≡ Some base → Served K.took plan.now.blocks out.old (moving base id (WriteJob first count fill forced reliable high ∷ jobs)) result (shown_by (A.state array.new)) out.new (issuing (moved plan.now.blocks base (WriteJob first count fill forced reliable high) count) (id + 1) jobs) }
     ensures sectors { intent.new.sectors ≡ intent.old.sectors }
     ensures open { OnOk result (IsOpen intent.new (A.state array.new)) }
+    ensures image { ShowsImage (A.state array.new) }
     ensures cause { HasCause (K.faults out.old) (K.faults out.new) (A.state array.old) (A.state array.new) result }
 {
     match write_all(intent, first, count, fill, plan, array) {

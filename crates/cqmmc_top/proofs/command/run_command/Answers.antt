@@ -1,6 +1,6 @@
-use Rattle.std.proofs.Common.{List, ℕ, Option, None, Some}
+use Rattle.std.proofs.Common.{◌≡◌, List, ℕ, Option, None, Some, false, refl}
 use Rattle.std.specs.Prelude.{IfNone, IfSome}
-use Rattle.cqmmc_top.specs.Command.{IsCall, IsCommand, IsMakeable}
+use Rattle.cqmmc_top.specs.Command.{IsCall, IsCommand, IsMakeable, IsRaw, IsRun, reads_first, reads_second}
 use Rattle.cqmmc_top.specs.declared.command.Command.{Command}
 use Rattle.cqmmc_top.specs.declared.command.Command.TheVariants.{ExtCsd, New, Raw, Run}
 use Rattle.cqmmc_top.proofs.command.run_command.Goals as goal
@@ -17,8 +17,28 @@ makeable (Some ExtCsd) words some = tt
 makeable (Some (New sectors)) words some = (some.some, some.most)
 makeable (Some Raw) words some = tt
 
+no_first : (command : Option Command) (words : List (List ℕ)) → IsCall command words → (IsRun words → ⊥) → (IsRaw words → ⊥) → reads_first command ≡ false
+no_first None words call run raw = refl
+no_first (Some Run) words call run raw = absurd (run call)
+no_first (Some ExtCsd) words call run raw = refl
+no_first (Some (New sectors)) words call run raw = refl
+no_first (Some Raw) words call run raw = absurd (raw call)
+
+no_second : (command : Option Command) (words : List (List ℕ)) → IsCall command words → (IsRun words → ⊥) → reads_second command ≡ false
+no_second None words call run = refl
+no_second (Some Run) words call run = absurd (run call)
+no_second (Some ExtCsd) words call run = refl
+no_second (Some (New sectors)) words call run = refl
+no_second (Some Raw) words call run = refl
+
 pub carry_out-status-requires : goal.carry_out-status-requires
 carry_out-status-requires g c = record { makeable = makeable c.command_of.result _ c.command_of.ensures.some }
 
 pub returns-clause-answers : goal.returns-clause-answers
-returns-clause-answers g c = c.carry_out-status.ensures _ (called c.command_of.result _ c.command_of.ensures.some c.command_of.ensures.none)
+returns-clause-answers g c = c.carry_out-status.ensures.answers _ (called c.command_of.result _ c.command_of.ensures.some c.command_of.ensures.none)
+
+pub returns-clause-first : goal.returns-clause-first
+returns-clause-first g c = λ run raw. c.carry_out-status.ensures.first (no_first c.command_of.result _ (called c.command_of.result _ c.command_of.ensures.some c.command_of.ensures.none) run raw)
+
+pub returns-clause-second : goal.returns-clause-second
+returns-clause-second g c = λ run. c.carry_out-status.ensures.second (no_second c.command_of.result _ (called c.command_of.result _ c.command_of.ensures.some c.command_of.ensures.none) run)
