@@ -1,34 +1,33 @@
 -- The card's event of the last letter, in which the power is lost while a phase is under way: its phase is taken as the engine's, and its cut likewise.
-use Rattle.std.proofs.Common.{inl, inr, ◌≡◌, ◌∙◌, ◌⊎◌, ◌≤◌, ℕ, Bool, true, false, Option, Some, None, cond, ◌&&◌, ◌||◌, not, is_none, is_some, nat_le, zip, ◌==◌, List, [], ◌∷◌, ◌++◌, refl, ap, sym}
+use Rattle.std.proofs.Common.{inl, inr, ◌≡◌, ◌∙◌, ◌⊎◌, ◌≤◌, ℕ, Bool, true, false, Option, None, cond, ◌&&◌, ◌||◌, not, is_none, is_some, nat_le, zip, ◌==◌, List, [], ◌∷◌, ◌++◌, refl, ap, sym}
 use Rattle.std.proofs.lemmas.Bool.{false≢true, and_from, and_parts, and_right, eqb-true, or_from, or_parts}
 use Rattle.std.specs.Prelude.{position}
 use Rattle.storage_machine.specs.Commands.{due, hit, is_calm, next_number}
-use Rattle.storage_machine.specs.Cuts.{due_line, has_own_line, is_due, sent_so_far}
-use Rattle.storage_machine.specs.Host.{has_work, next_issue, recovery_steps, to_do}
+use Rattle.storage_machine.specs.Cuts.{due_line, is_due, sent_so_far}
+use Rattle.storage_machine.specs.Host.{has_work, next_issue, to_do}
 use Rattle.storage_machine.specs.declared.state.Event.{Event}
-use Rattle.storage_machine.specs.declared.state.Event.TheVariants.{Untold, Told, Due}
+use Rattle.storage_machine.specs.declared.state.Event.TheVariants.{Untold, Told}
 use Rattle.storage_machine.specs.declared.state.Owed.{Owed}
-use Rattle.storage_machine.specs.declared.state.Owed.TheVariants.{Card as CardOwed, Nothing, Closed, Bus as BusOwed, Flash as FlashOwed, Answers, Sectors, Recover as RecoverOwed, Dark, Left as LeftOwed, End as Ended}
+use Rattle.storage_machine.specs.declared.state.Owed.TheVariants.{Nothing, Closed, Dark}
 use Rattle.storage_machine.specs.declared.state.State.{State}
 use Rattle.storage_machine.specs.Jobs.{job_of}
 use Rattle.storage_model.specs.declared.block.Block.{Block}
 use Rattle.storage_model.specs.declared.faults.BusKind.{BusKind}
 use Rattle.storage_model.specs.declared.plan.Job.{Job}
-use Rattle.storage_model.specs.declared.faults.Letter.{Letter}
-use Rattle.storage_model.specs.declared.faults.Letter.TheVariants.{Host, Engine, Card, Cut as PowerActs}
+use Rattle.storage_model.specs.declared.faults.Letter.TheVariants.{Card}
 use Rattle.storage_model.specs.declared.trace.Item.{Item}
 use Rattle.storage_model.specs.declared.trace.Item.TheVariants.{Phase, Cut}
 use Rattle.storage_order.proofs.Accepts.{holds_unbroken}
 use Rattle.storage_order.specs.Accept.{accept_from}
-use Rattle.storage_order.specs.Events.{Fits, Lasts, More, goes_on, closed, end_rule, ended, ended_by, rule_of_end, engine_step, is_untold}
-use Rattle.storage_order.specs.Order.{engine_first, entered, forced, is_next, is_of_next, is_phase, is_told, left_behind, letters_left, needs_step, order_rule, settled, start_rule, starts, starts_at, untold_steps, with_due}
+use Rattle.storage_order.specs.Events.{Fits, Lasts, More, goes_on, end_rule, ended, ended_by, rule_of_end, is_untold}
+use Rattle.storage_order.specs.Order.{forced, is_of_next, letters_left, starts, starts_at}
 use Rattle.storage_runs.proofs.Ends.{First, after_by, more_plan}
 use Rattle.storage_runs.proofs.Lines.{event_none, one_taken}
 use Rattle.storage_runs.proofs.Mores.{calm_steps, cut_is, is_untold_event, more_taken, not_true, start_none}
-use Rattle.storage_runs.proofs.Engines.{Enters, engine_next, enters_first}
+use Rattle.storage_runs.proofs.Engines.{engine_next, enters_first}
 use Rattle.storage_runs.proofs.Lags.{calm_work}
 use Rattle.storage_runs.proofs.Phases.{amid, cut_by_event, moved_amid, moved_on, phase_forced, phase_line, uncut_yields}
-use Rattle.storage_runs.proofs.Turns.{behind_rested, due_owed}
+use Rattle.storage_runs.proofs.Turns.{behind_rested}
 use Rattle.storage_runs.proofs.Told.{IsBegun, due_event, phase_uncut, untold_told}
 use Rattle.storage_runs.specs.Laws.{Takes, rested}
 use Rattle.storage_runs.specs.Runs.{StaysSo, Yields}
@@ -37,7 +36,7 @@ use Rattle.trace_effects.specs.Effects.{after_cut, cut_at, effect, first_cut}
 use Rattle.trace_effects.specs.Phases.{after_blocks, after_done, after_keep, after_phase, closed_by, done_with, event_with, phase_by, read_sectors}
 use Rattle.trace_rules.specs.Lines.{cut_holds, holds, is_free, line_rule}
 use Rattle.trace_rules.specs.Phases.{is_phase_of, is_whole, owed_by, phase_holds, tag_due}
-use Rattle.trace_rules.specs.Steps.{earlier, event_rule, is_cut, is_cut_by, is_left_so, is_line_of, is_nothing, is_under_way, lower, stands_in, yields_to_cut}
+use Rattle.trace_rules.specs.Steps.{earlier, is_cut, is_cut_by, is_line_of, is_nothing, is_under_way, stands_in}
 
 -- the event under way is that of nobody
 abbrev pub unsaid : State → State
@@ -51,7 +50,7 @@ phase_out s busy spent job tag kind n id count kept =
     ∙ sym (ap (λ x. closed_by x n owed) (moved_amid s busy spent Untold job tag kind id count kept))
 
 -- the phase in an event of nobody
-effect_out : (b : State) (n id count : ℕ) (kept : Bool) → b.event ≡ Told Card → effect (unsaid b) (Phase n id count kept) ≡ unsaid (effect b (Phase n id count kept))
+pub effect_out : (b : State) (n id count : ℕ) (kept : Bool) → b.event ≡ Told Card → effect (unsaid b) (Phase n id count kept) ≡ unsaid (effect b (Phase n id count kept))
 unfolding effect after_phase due hit
 effect_out b n id count kept e =
     sym (phase_out b b.busy b.spent (job_of b.plan.jobs id) (tag_due (due b)) (hit b) n id count kept)
@@ -89,7 +88,7 @@ pub record IsBehind (b p : State) (number : ℕ) : Type 0 where
   pub n : p.n ≡ number
   pub busy : p.busy ≡ false
 
-behind : (b : State) (n id count : ℕ) (kept : Bool) → IsBehind b (effect b (Phase n id count kept)) n
+pub behind : (b : State) (n id count : ℕ) (kept : Bool) → IsBehind b (effect b (Phase n id count kept)) n
 unfolding effect after_phase
 behind b n id count kept =
     let moved = moved_left b (job_of b.plan.jobs id) (tag_due (due b)) (hit b) id count kept in
@@ -111,7 +110,7 @@ undone true late a b = b
 undone false late a b = absurd (cc)
 
 -- a cut isn't due behind the phase that was under way where it wasn't before
-late_behind : (b p : State) (n : ℕ) → IsBehind b p n → to_do b ≡ true → is_due b ≡ false → b.busy ≡ true → n ≡ next_number b → is_due p ≡ false
+pub late_behind : (b p : State) (n : ℕ) → IsBehind b p n → to_do b ≡ true → is_due b ≡ false → b.busy ≡ true → n ≡ next_number b → is_due p ≡ false
 late_behind b p n x some late busy is =
     and_right (to_do p) (is_some (due_line p)) (sent_at p b x.faults x.cuts (sent_behind b p n x busy is) ∙ undone (to_do b) (is_some (due_line b)) some late)
 
@@ -132,7 +131,7 @@ own_cut : (p : State) (owed : Owed) → is_calm p.recovery ≡ true → is_due p
 own_cut p Closed calm late on = and_from (is_calm p.recovery) (not (is_due (unsaid p))) calm (ap not (due_event p Untold ∙ late))
 own_cut p owed calm late on = on
 
-stands_cut : (p : State) (item : Item) (owed : Owed) → p.owed ≡ owed → p.event ≡ Told Card → goes_on p owed item ≡ true → stands_in p p.event item ≡ true → is_cut item ≡ true
+pub stands_cut : (p : State) (item : Item) (owed : Owed) → p.owed ≡ owed → p.event ≡ Told Card → goes_on p owed item ≡ true → stands_in p p.event item ≡ true → is_cut item ≡ true
 stands_cut p item Nothing at e on stands = absurd (cc)
 stands_cut p item owed at e on stands = sym (ap (λ o. cond (is_nothing o) (is_line_of Card (is_calm p.recovery) item && is_under_way p.busy item) (is_cut item)) at) ∙ (sym (ap (λ event. stands_in p event item) e) ∙ stands)
 
@@ -140,7 +139,7 @@ cut_more : (p last : State) (items : List Item) → p.event ≡ Told Card → is
 cut_more p last items e calm late go =
     (own_cut p p.owed calm late go.0, record { line = out_line p ∙ go.1.line; stands = refl; first = refl }, rw (out_cut p e) go.2)
 
-more_cut : (p last : State) (item : Item) (items : List Item) → item ≡ Cut → p.event ≡ Told Card → is_calm p.recovery ≡ true → is_due p ≡ false → More p (item ∷ items) last → More (unsaid p) (item ∷ items) last
+pub more_cut : (p last : State) (item : Item) (items : List Item) → item ≡ Cut → p.event ≡ Told Card → is_calm p.recovery ≡ true → is_due p ≡ false → More p (item ∷ items) last → More (unsaid p) (item ∷ items) last
 more_cut p last item items at e calm late go = rw at (cut_more p last items e calm late (rw at at go))
 
 -- the further lines
@@ -150,10 +149,10 @@ more_out p last (item ∷ items) e calm late go over =
     let cut = cut_is item (stands_cut p item p.owed refl e go.0 go.1.stands) in
     more_cut p last item items cut e calm late go
 
-cut_so : (p : State) (items : List Item) → p.event ≡ Told Card → StaysSo p (Cut ∷ items) → StaysSo (unsaid p) (Cut ∷ items)
+pub cut_so : (p : State) (items : List Item) → p.event ≡ Told Card → StaysSo p (Cut ∷ items) → StaysSo (unsaid p) (Cut ∷ items)
 cut_so p items e so = (refl, rw (out_cut p e) so.1)
 
-so_cut : (p : State) (item : Item) (items : List Item) → item ≡ Cut → p.event ≡ Told Card → StaysSo p (item ∷ items) → StaysSo (unsaid p) (item ∷ items)
+pub so_cut : (p : State) (item : Item) (items : List Item) → item ≡ Cut → p.event ≡ Told Card → StaysSo p (item ∷ items) → StaysSo (unsaid p) (item ∷ items)
 so_cut p item items at e so = rw at (cut_so p items e (rw at at so))
 
 so_out : (p last : State) (items : List Item) → p.event ≡ Told Card → More p items last → StaysSo p items → StaysSo (unsaid p) items
@@ -204,7 +203,7 @@ card_forced b n id count kept x =
     let same = calm_steps y (calm_work b x.work) in
     phase_forced y n id count kept x.letters (due_event b Untold ∙ x.late) (ap is_cut_by same ∙ (cut_by_event b Untold ∙ x.uncut)) (ap is_due same ∙ (due_event b Untold ∙ x.late)) ∙ same
 
-card_first : (b : State) (n id count : ℕ) (kept : Bool) → IsLast b n id count kept → First b (unsaid b) (Phase n id count kept)
+pub card_first : (b : State) (n id count : ℕ) (kept : Bool) → IsLast b n id count kept → First b (unsaid b) (Phase n id count kept)
 card_first b n id count kept x =
     let y = unsaid b in
     let item = Phase n id count kept in
@@ -216,11 +215,11 @@ card_first b n id count kept x =
       effect = refl;
     })
 
-number_of : (b : State) (n id count : ℕ) (kept : Bool) → holds b (Phase n id count kept) ≡ true → n ≡ next_number b
+pub number_of : (b : State) (n id count : ℕ) (kept : Bool) → holds b (Phase n id count kept) ≡ true → n ≡ next_number b
 unfolding holds phase_holds
 number_of b n id count kept is = eqb-true n (next_number b) (and_parts (n == next_number b) (is_phase_of b id count kept (due b)) is).0
 
-busy_of : (b : State) (n id count : ℕ) (kept : Bool) → IsLast b n id count kept → b.busy ≡ true
+pub busy_of : (b : State) (n id count : ℕ) (kept : Bool) → IsLast b n id count kept → b.busy ≡ true
 busy_of b n id count kept x =
     (and_parts true b.busy (sym (ap (λ o. cond (is_nothing o) (true && b.busy) false) x.owed) ∙ (sym (ap (λ event. stands_in b event (Phase n id count kept)) x.event) ∙ x.fits.stands))).1
 
@@ -246,7 +245,7 @@ card_lasts b t n id count kept items x lasts so depth =
           ∙ more_taken (unsaid p) lasts.last items (more_out p lasts.last items e calm late go lasts.event) (so_out p lasts.last items e go so.1) more);
     }
 
-late_of : (b : State) → is_due b ≡ false ⊎ (b.event ≡ Untold) → b.event ≡ Told Card → is_due b ≡ false
+pub late_of : (b : State) → is_due b ≡ false ⊎ (b.event ≡ Untold) → b.event ≡ Told Card → is_due b ≡ false
 late_of b (inl late) e = late
 late_of b (inr untold) e = absurd (cc)
 

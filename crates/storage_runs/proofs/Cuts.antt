@@ -1,35 +1,30 @@
 -- A cut that no letter tells is taken, the engine's or that of a due line.
-use Rattle.std.proofs.Common.{inl, inr, ◌≡◌, ◌∙◌, ◌⊎◌, ℕ, Bool, true, false, Option, Some, None, cond, ◌&&◌, ◌||◌, not, List, [], ◌∷◌, refl, ap, sym}
-use Rattle.std.proofs.lemmas.Bool.{and_from, and_left, or_from, and_parts, and_right, or_parts, or_right}
-use Rattle.storage_machine.specs.Commands.{is_calm}
+use Rattle.std.proofs.Common.{inl, inr, ◌≡◌, ◌∙◌, Bool, true, false, None, cond, ◌&&◌, not, refl, ap, sym}
+use Rattle.std.proofs.lemmas.Bool.{and_from, and_left, or_from, and_right, or_right}
 use Rattle.storage_machine.specs.Cuts.{due_line, is_due}
 use Rattle.storage_machine.specs.Host.{has_work, next_issue, recovery_steps, recovery_steps_at, to_do}
-use Rattle.storage_machine.specs.declared.state.Event.{Event}
 use Rattle.storage_machine.specs.declared.state.Event.TheVariants.{Untold, Told, Due}
 use Rattle.storage_machine.specs.declared.state.Owed.{Owed}
-use Rattle.storage_machine.specs.declared.state.Owed.TheVariants.{Card as CardOwed, Nothing, Closed, Bus as BusOwed, Flash as FlashOwed, Answers, Sectors, Recover as RecoverOwed, Dark, Left as LeftOwed, End as Ended}
+use Rattle.storage_machine.specs.declared.state.Owed.TheVariants.{Nothing, Closed, Dark}
 use Rattle.storage_machine.specs.declared.state.Recovery.{Recovery}
 use Rattle.storage_machine.specs.declared.state.Recovery.TheVariants.{Calm, Halted, Cleared, Discarded, Cleaned, Resumed}
 use Rattle.storage_machine.specs.declared.state.State.{State}
-use Rattle.storage_model.specs.declared.faults.Letter.{Letter}
-use Rattle.storage_model.specs.declared.faults.Letter.TheVariants.{Engine, Cut as PowerActs}
-use Rattle.storage_model.specs.declared.trace.Item.{Item}
+use Rattle.storage_model.specs.declared.faults.Letter.TheVariants.{Engine}
 use Rattle.storage_model.specs.declared.trace.Item.TheVariants.{Cut}
-use Rattle.storage_order.specs.Events.{Fits, end_rule, ended, engine_step}
-use Rattle.storage_order.specs.Order.{engine_first, entered, forced, is_next, is_of_cut, left_behind, letters_left, start_rule, untold_steps, with_due}
+use Rattle.storage_order.specs.Events.{end_rule, ended, engine_step}
+use Rattle.storage_order.specs.Order.{engine_first, forced, is_next, letters_left, with_due}
 use Rattle.storage_runs.proofs.Ends.{First}
-use Rattle.storage_runs.proofs.Engines.{Enters, engine_next, enters_first, untold_starts}
-use Rattle.storage_runs.proofs.Hosts.{quiet_steps}
+use Rattle.storage_runs.proofs.Engines.{engine_next, enters_first, untold_starts}
 use Rattle.storage_runs.proofs.Hushes.{Rests, rests}
-use Rattle.storage_runs.proofs.Lags.{IsBusied, IsRecovered, IsTicked, Reached, calm_work}
+use Rattle.storage_runs.proofs.Lags.{Reached, calm_work}
 use Rattle.storage_runs.proofs.Lines.{event_none}
-use Rattle.storage_runs.proofs.Mores.{calm_steps, ended_untold, no_step, start_none}
+use Rattle.storage_runs.proofs.Mores.{calm_steps, ended_untold, start_none}
 use Rattle.storage_runs.proofs.Turns.{due_owed}
 use Rattle.storage_runs.specs.Laws.{StandsAt, rested}
 use Rattle.trace_effects.specs.Cuts.{used}
 use Rattle.trace_effects.specs.Effects.{after_cut, cut_at, effect, first_cut, line_used, over}
 use Rattle.trace_rules.specs.Lines.{cut_holds, holds, is_free, line_rule}
-use Rattle.trace_rules.specs.Steps.{event_rule, is_cut, is_line_of, is_nothing, stands_in}
+use Rattle.trace_rules.specs.Steps.{is_nothing, stands_in}
 
 cut_rule_by : (s : State) (owed : Owed) → s.owed ≡ owed → is_free owed ≡ true → line_rule s Cut ≡ None
 unfolding line_rule holds cut_holds

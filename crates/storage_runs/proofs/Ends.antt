@@ -1,18 +1,16 @@
 -- Where the last line of an event leads.
-use Rattle.std.proofs.Common.{inl, inr, ◌≡◌, ◌∙◌, ◌⊎◌, ◌≤◌, ℕ, Bool, true, false, Option, None, ◌&&◌, ◌||◌, not, List, [], ◌∷◌, ◌++◌, refl, ap, sym}
-use Rattle.storage_machine.specs.declared.state.Event.{Event}
+use Rattle.std.proofs.Common.{inl, inr, ◌≡◌, ◌∙◌, ◌⊎◌, ◌≤◌, true, None, List, [], ◌∷◌, ◌++◌, refl, ap, sym}
 use Rattle.storage_machine.specs.declared.state.Event.TheVariants.{Untold}
 use Rattle.storage_machine.specs.declared.state.Owed.{Owed}
 use Rattle.storage_machine.specs.declared.state.Owed.TheVariants.{Card as CardOwed, Nothing, Closed, Bus as BusOwed, Flash as FlashOwed, Answers, Sectors, Recover as RecoverOwed, Dark, Left as LeftOwed, End as Ended}
 use Rattle.storage_machine.specs.declared.state.State.{State}
-use Rattle.storage_model.specs.declared.plan.Plan.{Plan}
 use Rattle.storage_model.specs.declared.trace.Item.{Item}
 use Rattle.storage_order.specs.Accept.{accept_from}
-use Rattle.storage_order.specs.Events.{Lasts, More, closed, ended, is_over}
+use Rattle.storage_order.specs.Events.{Lasts, More, closed, is_over}
 use Rattle.storage_order.specs.Order.{order_rule, settled}
 use Rattle.storage_runs.proofs.Lines.{one_taken}
 use Rattle.storage_runs.proofs.Mores.{end_untold, ended_untold, is_untold_event, more_taken, or_true}
-use Rattle.storage_runs.specs.Laws.{Closes, HasEnded, StandsAt, Takes, rested}
+use Rattle.storage_runs.specs.Laws.{Closes, HasEnded, StandsAt}
 use Rattle.storage_runs.specs.Runs.{StaysSo}
 use Rattle.trace_effects.proofs.Sounds.{effect_keeps}
 use Rattle.trace_effects.specs.Effects.{effect}

@@ -1,41 +1,36 @@
 -- The engine's event that no letter tells is taken.
-use Rattle.std.proofs.Common.{length, inl, inr, ◌≡◌, ◌∙◌, ◌⊎◌, ℕ, Bool, true, false, Option, Some, None, cond, ◌&&◌, ◌||◌, not, is_some, ◌==◌, find, option_map, List, [], ◌∷◌, refl, ap, sym}
-use Rattle.std.proofs.lemmas.Bool.{false≢true, and_left, and_parts, and_right, or_parts, or_right}
-use Rattle.storage_machine.specs.Commands.{due, execute_blocks, hit, met, next_number, is_calm, is_gone, is_idle, is_kind, is_none_due, is_running, polled_mask}
-use Rattle.storage_machine.specs.Cuts.{due_line, has_own_line, is_due}
+use Rattle.std.proofs.Common.{length, inl, inr, ◌≡◌, ◌∙◌, ℕ, Bool, true, false, Option, Some, None, cond, ◌&&◌, ◌==◌, find, option_map, refl, ap, sym}
+use Rattle.std.proofs.lemmas.Bool.{false≢true, and_parts}
+use Rattle.storage_machine.specs.Commands.{due, execute_blocks, hit, met, next_number, is_calm, is_gone, is_kind, polled_mask}
+use Rattle.storage_machine.specs.Cuts.{is_due}
 use Rattle.storage_machine.specs.Jobs.{is_in_range, job_of}
-use Rattle.storage_machine.specs.Host.{has_work, is_silent, next_issue, recovery_steps, recovery_steps_at, to_do}
-use Rattle.storage_machine.specs.declared.commands.DueCommand.{DueCommand}
-use Rattle.storage_machine.specs.declared.commands.DueCommand.TheVariants.{Idle, Address as AddressDue, Params as ParamsDue, Direct, Execute, Poll as PollDue}
+use Rattle.storage_machine.specs.Host.{has_work, recovery_steps, to_do}
+use Rattle.storage_machine.specs.declared.commands.DueCommand.TheVariants.{Idle, Execute}
 use Rattle.storage_machine.specs.declared.state.Event.{Event}
-use Rattle.storage_machine.specs.declared.state.Event.TheVariants.{Untold, Told, Due}
-use Rattle.storage_machine.specs.declared.state.Owed.{Owed}
-use Rattle.storage_machine.specs.declared.state.Owed.TheVariants.{Card as CardOwed, Nothing, Closed, Bus as BusOwed, Flash as FlashOwed, Answers, Sectors, Recover as RecoverOwed, Dark, Left as LeftOwed, End as Ended}
+use Rattle.storage_machine.specs.declared.state.Event.TheVariants.{Untold, Told}
+use Rattle.storage_machine.specs.declared.state.Owed.TheVariants.{Nothing}
 use Rattle.storage_machine.specs.declared.state.Recovery.{Recovery}
-use Rattle.storage_machine.specs.declared.state.Recovery.TheVariants.{Calm, Halted, Cleared, Discarded, Cleaned, Resumed}
+use Rattle.storage_machine.specs.declared.state.Recovery.TheVariants.{Calm}
 use Rattle.storage_machine.specs.declared.state.State.{State}
 use Rattle.storage_model.specs.declared.faults.BusKind.{BusKind}
 use Rattle.storage_model.specs.declared.faults.BusKind.TheVariants.{Lost as IsLost, NoResp, Bad, Late}
-use Rattle.storage_model.specs.declared.faults.Letter.{Letter}
-use Rattle.storage_model.specs.declared.faults.Letter.TheVariants.{Host, Engine, Card as CardActs, Cut as PowerActs}
+use Rattle.storage_model.specs.declared.faults.Letter.TheVariants.{Host, Engine}
 use Rattle.storage_model.specs.declared.trace.Item.{Item}
-use Rattle.storage_model.specs.declared.trace.Item.TheVariants.{Card, Issue, Params, Address, Poll, Phase, Discard, Bus, Flash, Recover, Irq, Done, Read, Sector, Status, Fault, Refused, Cut, Lost, On, Left, Turn, Off}
+use Rattle.storage_model.specs.declared.trace.Item.TheVariants.{Params, Address, Poll, Bus}
 use Rattle.storage_order.proofs.Accepts.{holds_unbroken}
-use Rattle.storage_order.specs.Events.{Fits, end_rule, ended, engine_step, is_untold, may_pass}
-use Rattle.storage_order.specs.Order.{engine_first, entered, forced, is_alone, is_cut_phase, is_next, next_actor, is_of_cut, left_behind, letters_left, needs_step, order_rule, settled, start_rule, starts, untold_steps, with_due}
+use Rattle.storage_order.specs.Events.{Fits, end_rule, ended, may_pass}
+use Rattle.storage_order.specs.Order.{entered, forced, is_alone, is_next, next_actor, is_of_cut, letters_left, needs_step, order_rule, settled, start_rule, starts}
 use Rattle.storage_runs.proofs.Ends.{First}
-use Rattle.storage_runs.proofs.Hosts.{next_turn, first_event, forced_steps, idle_due, quiet_steps}
-use Rattle.storage_runs.proofs.Hushes.{Rests, rests}
-use Rattle.storage_runs.proofs.Lags.{IsBusied, IsRecovered, IsTicked, Reached, calm_work, due_busy, due_tick, never_execute, not_true}
+use Rattle.storage_runs.proofs.Hosts.{next_turn, first_event, forced_steps, idle_due}
+use Rattle.storage_runs.proofs.Hushes.{Rests}
+use Rattle.storage_runs.proofs.Lags.{Reached, calm_work, due_busy, due_tick, not_true}
 use Rattle.storage_runs.proofs.Lines.{event_none}
-use Rattle.storage_runs.proofs.Mores.{calm_steps, ended_untold, no_step, start_none}
-use Rattle.storage_runs.proofs.Turns.{behind_rested, due_owed, starts_free}
+use Rattle.storage_runs.proofs.Mores.{calm_steps, no_step, start_none}
+use Rattle.storage_runs.proofs.Turns.{behind_rested, due_owed}
 use Rattle.storage_runs.specs.Laws.{StandsAt, rested}
 use Rattle.trace_effects.specs.Effects.{addressed, after_address, after_bus, after_params, after_poll, effect, over}
-use Rattle.trace_effects.specs.Phases.{after_phase}
-use Rattle.trace_rules.specs.Lines.{address_holds, bus_by_owed, bus_holds, is_address, is_heard, is_missed_now, is_params, cut_holds, holds, is_free, is_missed, is_poll, is_target, line_rule, may_cut, params_holds, poll_holds}
-use Rattle.trace_rules.specs.Phases.{is_phase_of, phase_holds}
-use Rattle.trace_rules.specs.Steps.{earlier, event_rule, is_cut, is_cut_by, is_execute, is_first_work, is_left_so, is_line_of, is_nothing, lower, stands_in, yields_to_cut}
+use Rattle.trace_rules.specs.Lines.{address_holds, bus_by_owed, bus_holds, is_address, is_heard, is_missed_now, is_params, holds, is_free, is_missed, is_poll, is_target, line_rule, params_holds, poll_holds}
+use Rattle.trace_rules.specs.Steps.{earlier, event_rule, is_cut, is_left_so, is_line_of, is_nothing, lower, yields_to_cut}
 
 -- where no event is told, each line begins one
 pub untold_starts : (m : State) (item : Item) → is_free m.owed ≡ true → m.event ≡ Untold → starts m item ≡ true

@@ -1,27 +1,27 @@
 -- The host's event that no letter tells is taken.
-use Rattle.std.proofs.Common.{inl, inr, ◌≡◌, ◌∙◌, ◌⊎◌, ℕ, Bool, true, false, Option, Some, None, cond, ◌&&◌, ◌||◌, not, is_some, length, nat_lt, slice_get, get_or, ◌<◌, ◌≤◌, List, [], ◌∷◌, refl, ap, sym}
-use Rattle.std.proofs.lemmas.Bool.{false≢true, and_left, and_parts, and_right, le-ltb, or_parts, or_right}
+use Rattle.std.proofs.Common.{inl, inr, ◌≡◌, ◌∙◌, ◌⊎◌, ℕ, Bool, true, false, Option, Some, None, cond, ◌&&◌, ◌||◌, not, is_some, length, get_or, ◌<◌, ◌≤◌, refl, ap, sym}
+use Rattle.std.proofs.lemmas.Bool.{false≢true, and_left, and_parts, le-ltb, or_parts}
 use Rattle.std.proofs.lemmas.Option.{slice_get_cases}
-use Rattle.storage_machine.specs.Commands.{due, hit, is_calm, is_idle, is_none_due, is_running}
-use Rattle.storage_machine.specs.Cuts.{due_line, is_due}
-use Rattle.storage_machine.specs.Host.{has_work, is_irq_due, is_silent, is_stopped, next_issue, recovery_steps, recovery_steps_at, to_do}
+use Rattle.storage_machine.specs.Commands.{due, hit, is_calm, is_none_due, is_running}
+use Rattle.storage_machine.specs.Cuts.{is_due}
+use Rattle.storage_machine.specs.Host.{has_work, is_silent, is_stopped, next_issue, recovery_steps, recovery_steps_at, to_do}
 use Rattle.storage_machine.specs.declared.commands.DueCommand.{DueCommand}
 use Rattle.storage_machine.specs.declared.commands.DueCommand.TheVariants.{Idle}
 use Rattle.storage_machine.specs.declared.state.Event.{Event}
 use Rattle.storage_machine.specs.declared.state.Event.TheVariants.{Untold, Told, Due}
 use Rattle.storage_machine.specs.declared.state.Owed.TheVariants.{Nothing}
 use Rattle.storage_machine.specs.declared.state.Recovery.{Recovery}
-use Rattle.storage_machine.specs.declared.state.Recovery.TheVariants.{Calm, Halted, Cleared, Discarded, Cleaned, Resumed}
+use Rattle.storage_machine.specs.declared.state.Recovery.TheVariants.{Calm, Cleared}
 use Rattle.storage_machine.specs.declared.state.State.{State}
 use Rattle.storage_model.specs.declared.faults.Letter.{Letter}
 use Rattle.storage_model.specs.declared.faults.Letter.TheVariants.{Host, Engine, Card as CardActs, Cut as PowerActs}
 use Rattle.storage_model.specs.declared.trace.Item.{Item}
-use Rattle.storage_model.specs.declared.trace.Item.TheVariants.{Card, Issue, Params, Address, Poll, Phase, Discard, Bus, Flash, Recover, Irq, Done, Read, Sector, Status, Fault, Refused, Cut, Lost, On, Left, Turn, Off}
+use Rattle.storage_model.specs.declared.trace.Item.TheVariants.{Issue, Phase, Discard, Bus, Flash, Recover, Irq, Fault, Refused, Cut}
 use Rattle.storage_order.proofs.Accepts.{holds_unbroken}
-use Rattle.storage_order.specs.Events.{Fits, end_rule, ended, ended_by, engine_step, rule_of_end}
-use Rattle.storage_order.specs.Order.{engine_first, entered, forced, is_alone, is_next, next_actor, is_of_cut, is_of_next, is_phase, left_behind, letters_left, needs_step, order_rule, settled, start_rule, starts, untold_steps, with_due}
+use Rattle.storage_order.specs.Events.{Fits, end_rule, ended, ended_by, engine_step}
+use Rattle.storage_order.specs.Order.{engine_first, entered, forced, is_alone, is_next, next_actor, is_of_cut, is_of_next, letters_left, order_rule, settled, start_rule, starts}
 use Rattle.storage_runs.proofs.Ends.{First}
-use Rattle.storage_runs.proofs.Hushes.{Rests, rests}
+use Rattle.storage_runs.proofs.Hushes.{Rests}
 use Rattle.storage_runs.proofs.Lags.{IsBusied, IsRecovered, IsTicked, Reached, calm_work, recovery_engine}
 use Rattle.storage_runs.proofs.Lines.{event_none}
 use Rattle.storage_runs.proofs.Mores.{no_step, start_none}
@@ -29,8 +29,8 @@ use Rattle.storage_runs.proofs.Turns.{behind_rested, due_owed, starts_free}
 use Rattle.storage_runs.specs.Laws.{StandsAt, rested}
 use Rattle.storage_runs.specs.Runs.{next_letter}
 use Rattle.trace_effects.specs.Effects.{after_bus, after_discard, after_fault, after_irq, after_issue, after_recover, effect}
-use Rattle.trace_rules.specs.Lines.{bus_holds, discard_holds, fault_holds, holds, irq_holds, is_free, is_pair, line_rule, may_discard, recover_holds, refused_holds}
-use Rattle.trace_rules.specs.Steps.{earlier, event_rule, is_cut, is_first_work, is_left_so, is_line_of, is_nothing, lower, stands_in, yields_to_cut}
+use Rattle.trace_rules.specs.Lines.{bus_holds, discard_holds, fault_holds, holds, irq_holds, is_pair, line_rule, may_discard, recover_holds, refused_holds}
+use Rattle.trace_rules.specs.Steps.{earlier, is_cut, is_first_work, is_left_so, is_line_of, is_nothing, lower, yields_to_cut}
 
 -- what the host's lines have in common
 pub record IsHosts (s : State) (item : Item) : Type 0 where

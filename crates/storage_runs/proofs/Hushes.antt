@@ -1,9 +1,9 @@
 -- Events that no line tells: no letter is left and no cut is due; a step of a recovery is taken, or the engine's event prints nothing.
-use Rattle.std.proofs.Common.{◌+◌, inl, inr, ◌≡◌, ◌∙◌, ◌⊎◌, ℕ, zero, suc, Bool, true, false, Option, Some, None, cond, ◌&&◌, ◌||◌, not, List, [], ◌∷◌, nat_lt, slice_get, refl, ap, sym}
+use Rattle.std.proofs.Common.{◌+◌, inl, inr, ◌≡◌, ◌∙◌, ◌⊎◌, ℕ, zero, suc, Bool, true, false, Option, Some, None, cond, ◌&&◌, not, List, [], ◌∷◌, refl, ap, sym}
 use Rattle.std.proofs.lemmas.Bool.{false≢true}
 use Rattle.storage_machine.specs.Cuts.{is_due}
 use Rattle.storage_machine.specs.Host.{has_work, is_silent, recovery_step, recovery_step_at, to_do}
-use Rattle.storage_machine.specs.Commands.{due, hit, is_idle}
+use Rattle.storage_machine.specs.Commands.{due, hit}
 use Rattle.storage_machine.specs.declared.commands.DueCommand.{DueCommand}
 use Rattle.storage_machine.specs.declared.commands.DueCommand.TheVariants.{Idle, Address, Params, Direct, Execute, Poll}
 use Rattle.storage_machine.specs.declared.state.Event.{Event}
@@ -16,13 +16,12 @@ use Rattle.storage_model.specs.declared.faults.Letter.{Letter}
 use Rattle.storage_model.specs.declared.faults.Letter.TheVariants.{Host, Engine, Card, Cut}
 use Rattle.storage_model.specs.declared.trace.Item.{Item}
 use Rattle.storage_model.specs.declared.trace.Item.TheVariants.{Turn}
-use Rattle.storage_order.specs.Events.{Happens, Makes, end_rule, ended, ended_by, engine_may_pass, engine_step, may_pass, passed, rule_of_end}
-use Rattle.storage_order.specs.Order.{next_actor}
+use Rattle.storage_order.specs.Events.{Makes, end_rule, ended, ended_by, engine_may_pass, engine_step, passed}
 use Rattle.storage_runs.proofs.Mores.{ended_untold}
 use Rattle.storage_runs.specs.Laws.{rested}
-use Rattle.storage_runs.specs.Runs.{Comes, Unseen, begun_next, chosen, chosen_by, is_shown, next_letter, shown, with_letter}
+use Rattle.storage_runs.specs.Runs.{Comes, Unseen, begun_next, chosen, chosen_by, is_shown, next_letter}
 use Rattle.trace_effects.specs.Effects.{begun, begun_by, letters_used}
-use Rattle.trace_rules.specs.Lines.{is_letter, same_letter}
+use Rattle.trace_rules.specs.Lines.{is_letter}
 
 -- nothing is owed, and no event under way
 pub record Rests (s : State) : Type 0 where

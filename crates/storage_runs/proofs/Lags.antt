@@ -1,7 +1,7 @@
 -- Where events that no line tells lead: through the steps of a recovery, then to counted completions that are told, or into a phase.
-use Rattle.std.proofs.Common.{inl, inr, ◌≡◌, ◌∙◌, ◌⊎◌, ℕ, zero, suc, Bool, true, false, Option, Some, None, cond, ◌&&◌, ◌||◌, not, is_some, nat_lt, nat_le, ◌+◌, List, [], ◌∷◌, refl, ap, sym}
+use Rattle.std.proofs.Common.{inl, inr, ◌≡◌, ◌∙◌, ◌⊎◌, ℕ, zero, suc, Bool, true, false, Option, Some, None, cond, ◌&&◌, not, is_some, nat_lt, ◌+◌, refl, ap, sym}
 use Rattle.std.proofs.lemmas.Bool.{false≢true, and_from, and_parts, or_parts}
-use Rattle.storage_machine.specs.Commands.{command_of_tasks, due, execute_or_poll, first_high, hit, is_calm, is_gone, is_idle, is_none_due, is_running, next_ready, queue_first, job_on}
+use Rattle.storage_machine.specs.Commands.{due, execute_or_poll, first_high, is_calm, is_idle, is_none_due, is_running, next_ready, queue_first, job_on}
 use Rattle.storage_machine.specs.Cuts.{due_line, is_due}
 use Rattle.storage_machine.specs.Host.{has_work, is_silent, recovery_step, recovery_step_at, recovery_steps, recovery_steps_at, to_do}
 use Rattle.storage_machine.specs.Jobs.{is_direct}
@@ -15,7 +15,7 @@ use Rattle.storage_machine.specs.declared.state.State.{State}
 use Rattle.storage_order.specs.Events.{engine_may_pass, engine_step, may_pass, passed}
 use Rattle.storage_runs.proofs.Hushes.{EngineHush, HostHush, Hush, Rests, hush, hush_kept, rests_kept}
 use Rattle.storage_runs.proofs.Mores.{calm_steps}
-use Rattle.storage_runs.specs.Runs.{Comes, Unseen, next_letter}
+use Rattle.storage_runs.specs.Runs.{Unseen, next_letter}
 
 -- an idle engine told of counted completions
 pub record IsTicked (q s : State) : Type 0 where

@@ -14,5 +14,6 @@ pub mod Phases
 pub mod Owns
 pub mod Powers
 pub mod Untold
+pub mod Fronts
 pub mod Texts
 pub mod Taken

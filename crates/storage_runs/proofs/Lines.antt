@@ -1,5 +1,5 @@
 -- A line that is taken where it stands.
-use Rattle.std.proofs.Common.{◌≡◌, ◌∙◌, ℕ, Bool, true, false, Option, Some, None, cond, ◌&&◌, ◌||◌, not, List, ◌∷◌, refl, ap, sym}
+use Rattle.std.proofs.Common.{◌≡◌, ◌∙◌, ℕ, Bool, true, false, Option, Some, None, cond, List, ◌∷◌, refl, ap}
 use Rattle.std.proofs.lemmas.Bool.{false≢true}
 use Rattle.storage_machine.specs.Cuts.{least}
 use Rattle.storage_machine.specs.declared.state.Owed.{Owed}
@@ -8,10 +8,10 @@ use Rattle.storage_machine.specs.declared.state.State.{State}
 use Rattle.storage_model.specs.declared.trace.Item.{Item}
 use Rattle.storage_model.specs.declared.trace.Item.TheVariants.{Card, Issue, Params, Address, Poll, Phase, Discard, Bus, Flash, Recover, Irq, Done, Read, Sector, Status, Fault, Refused, Cut, Lost, On, Left, Turn, Off}
 use Rattle.storage_order.specs.Accept.{accept_from, accept_next, accepted, broken_rule}
-use Rattle.storage_order.specs.Order.{entered, is_phase, order_rule, settled, start_rule, starts}
+use Rattle.storage_order.specs.Order.{is_phase, order_rule, settled, starts}
 use Rattle.trace_effects.specs.Effects.{effect}
 use Rattle.trace_rules.specs.Lines.{holds, is_for, is_free, line_rule, owing, owing_past, rule_of}
-use Rattle.trace_rules.specs.Steps.{earlier, event_rule, is_first_work, is_left_so, lower, rule_of_event, stands_in, unless, yields_to_cut}
+use Rattle.trace_rules.specs.Steps.{event_rule, is_first_work, is_left_so, stands_in, yields_to_cut}
 
 -- no rule of 12 to 16 is broken
 pub event_none : (s : State) (item : Item) → stands_in s s.event item ≡ true → is_first_work s item ≡ true → yields_to_cut s item ≡ true → is_left_so s item ≡ true → event_rule s item ≡ None

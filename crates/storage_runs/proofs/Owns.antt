@@ -1,7 +1,7 @@
 -- Where a phase under way makes a cut due, the next command's own number has its line.
-use Rattle.std.proofs.Common.{inl, inr, ◌+◌, ◌≡◌, ◌∙◌, ◌≤◌, ◌⊎◌, ℕ, Bool, true, false, Option, Some, None, cond, ◌&&◌, ◌||◌, ◌==◌, not, is_some, min, nat_le, nat_lt, length, List, [], ◌∷◌, zip, arith, refl, ap, sym}
+use Rattle.std.proofs.Common.{inl, inr, ◌+◌, ◌≡◌, ◌∙◌, ◌≤◌, ◌⊎◌, ℕ, Bool, true, false, Option, Some, cond, ◌&&◌, ◌||◌, ◌==◌, not, is_some, nat_le, List, [], ◌∷◌, zip, arith, refl, ap, sym}
 use Rattle.std.specs.Prelude.{position}
-use Rattle.std.specs.List.{list_any, position_from, position_or_len}
+use Rattle.std.specs.List.{list_any, position_from}
 use Rattle.std.proofs.lemmas.Bool.{false≢true, and_cases, and_from, and_parts, eq-eqb, leb-false, leb-true, or_cases, or_left, or_parts, or_right}
 use Rattle.std.proofs.lemmas.Iterator.Adapters.{position_from-zero}
 use Rattle.storage_machine.specs.Commands.{next_number}

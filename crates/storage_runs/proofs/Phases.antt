@@ -1,29 +1,27 @@
 -- A phase that no letter tells is taken, the engine's or that of a due cut.
-use Rattle.std.proofs.Common.{inl, inr, ◌+◌, ◌≡◌, ◌∙◌, ◌⊎◌, ℕ, Bool, true, false, Option, Some, None, cond, ◌&&◌, ◌||◌, ◌==◌, not, is_none, is_some, nat_le, find, option_map, List, [], ◌∷◌, refl, ap, sym}
-use Rattle.std.proofs.lemmas.Bool.{false≢true, and_from, and_left, and_parts, and_right, or_from, or_left, or_parts, or_right}
-use Rattle.storage_machine.specs.Commands.{due, execute_blocks, hit, is_calm, is_gone, is_none_due, is_running, may_tick, met, next_number}
-use Rattle.storage_machine.specs.Cuts.{due_line, has_own_line, is_due}
-use Rattle.storage_machine.specs.Host.{has_work, next_issue, recovery_steps, to_do}
+use Rattle.std.proofs.Common.{inl, inr, ◌≡◌, ◌∙◌, ℕ, Bool, true, false, Option, None, cond, ◌&&◌, ◌==◌, not, is_none, List, refl, ap, sym}
+use Rattle.std.proofs.lemmas.Bool.{false≢true, and_left, and_parts, and_right, or_from}
+use Rattle.storage_machine.specs.Commands.{due, hit, is_none_due, is_running, may_tick, next_number}
+use Rattle.storage_machine.specs.Cuts.{has_own_line, is_due}
+use Rattle.storage_machine.specs.Host.{has_work, recovery_steps}
 use Rattle.storage_machine.specs.declared.commands.DueCommand.{DueCommand}
-use Rattle.storage_machine.specs.declared.commands.DueCommand.TheVariants.{Idle, Address as AddressDue, Params as ParamsDue, Direct, Execute, Poll as PollDue}
+use Rattle.storage_machine.specs.declared.commands.DueCommand.TheVariants.{Idle, Execute}
 use Rattle.storage_machine.specs.declared.state.Event.{Event}
 use Rattle.storage_machine.specs.declared.state.Event.TheVariants.{Untold, Told, Due}
 use Rattle.storage_machine.specs.declared.state.Owed.TheVariants.{Nothing}
 use Rattle.storage_machine.specs.declared.state.State.{State}
-use Rattle.storage_model.specs.declared.faults.Letter.{Letter}
-use Rattle.storage_model.specs.declared.faults.Letter.TheVariants.{Host, Engine, Cut as PowerActs}
-use Rattle.storage_model.specs.declared.trace.Item.{Item}
+use Rattle.storage_model.specs.declared.faults.Letter.TheVariants.{Engine}
 use Rattle.storage_model.specs.declared.trace.Item.TheVariants.{Phase}
 use Rattle.storage_order.proofs.Accepts.{holds_unbroken}
-use Rattle.storage_order.specs.Events.{Fits, end_rule, ended, engine_step, may_pass, passed}
-use Rattle.storage_order.specs.Order.{engine_first, entered, forced, is_alone, is_next, is_of_cut, left_behind, letters_left, needs_step, next_actor, start_rule, untold_steps, with_due}
+use Rattle.storage_order.specs.Events.{Fits, end_rule, ended, engine_step}
+use Rattle.storage_order.specs.Order.{engine_first, forced, is_next, letters_left, with_due}
 use Rattle.storage_runs.proofs.Ends.{First}
-use Rattle.storage_runs.proofs.Engines.{Enters, engine_next, enters_first, hit_busy, hit_execute, untold_starts}
+use Rattle.storage_runs.proofs.Engines.{engine_next, enters_first, hit_busy, untold_starts}
 use Rattle.storage_runs.proofs.Hosts.{idle_due}
 use Rattle.storage_runs.proofs.Hushes.{Rests}
-use Rattle.storage_runs.proofs.Lags.{IsBusied, IsRecovered, IsTicked, Reached, calm_work, due_busy, due_tick, not_true}
+use Rattle.storage_runs.proofs.Lags.{IsBusied, IsTicked, Reached, calm_work, due_busy, due_tick}
 use Rattle.storage_runs.proofs.Lines.{event_none}
-use Rattle.storage_runs.proofs.Mores.{calm_steps, no_step, start_none}
+use Rattle.storage_runs.proofs.Mores.{calm_steps, start_none}
 use Rattle.storage_runs.proofs.Told.{phase_uncut}
 use Rattle.storage_runs.proofs.Turns.{behind_rested, due_owed}
 use Rattle.storage_runs.specs.Laws.{StandsAt, rested}
@@ -34,8 +32,8 @@ use Rattle.storage_model.specs.declared.plan.Job.{Job}
 use Rattle.storage_machine.specs.Jobs.{job_of}
 use Rattle.trace_effects.specs.Phases.{after_blocks, after_done, after_keep, after_phase, closed_by, done_with, event_with, phase_by, read_sectors, sectors_now}
 use Rattle.trace_rules.specs.Lines.{holds, is_free, line_rule}
-use Rattle.trace_rules.specs.Phases.{is_phase_of, is_whole, moves, owed_by, phase_holds, tag_due}
-use Rattle.trace_rules.specs.Steps.{earlier, event_rule, is_cut, is_cut_by, is_due_event, is_execute, is_line_of, is_nothing, stands_in, yields_to_cut}
+use Rattle.trace_rules.specs.Phases.{is_phase_of, is_whole, owed_by, phase_holds, tag_due}
+use Rattle.trace_rules.specs.Steps.{earlier, is_cut_by, is_due_event, is_execute, stands_in, yields_to_cut}
 
 -- a phase is judged alike whoever's event is told
 pub phase_line : (s : State) (event : Event) (n id count : ℕ) (kept : Bool) → line_rule (record s { event = event }) (Phase n id count kept) ≡ line_rule s (Phase n id count kept)

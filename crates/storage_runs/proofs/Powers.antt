@@ -1,35 +1,28 @@
 -- The event of a due cut is taken.
-use Rattle.std.proofs.Common.{inl, inr, ◌+◌, ◌≡◌, ◌∙◌, ◌⊎◌, ℕ, Bool, true, false, Option, Some, None, cond, ◌&&◌, ◌||◌, ◌==◌, not, is_some, List, [], ◌∷◌, refl, ap, sym}
-use Rattle.std.proofs.lemmas.Bool.{false≢true, and_from, and_left, and_parts, and_right, or_from, or_right}
-use Rattle.storage_machine.specs.Commands.{due, hit, is_calm}
+use Rattle.std.proofs.Common.{inl, inr, ◌+◌, ◌≡◌, ◌∙◌, ◌⊎◌, ℕ, Bool, true, false, None, cond, ◌&&◌, ◌==◌, not, refl, ap, sym}
+use Rattle.std.proofs.lemmas.Bool.{false≢true, and_from, and_left, or_from, or_right}
+use Rattle.storage_machine.specs.Commands.{due}
 use Rattle.storage_machine.specs.Cuts.{due_line, has_own_line, is_due}
 use Rattle.storage_machine.specs.Host.{has_work, recovery_steps, to_do}
-use Rattle.storage_machine.specs.declared.commands.DueCommand.{DueCommand}
 use Rattle.storage_machine.specs.declared.commands.DueCommand.TheVariants.{Execute}
-use Rattle.storage_machine.specs.declared.state.Event.{Event}
-use Rattle.storage_machine.specs.declared.state.Event.TheVariants.{Untold, Told, Due}
-use Rattle.storage_machine.specs.declared.state.Owed.TheVariants.{Nothing}
+use Rattle.storage_machine.specs.declared.state.Event.TheVariants.{Untold, Due}
 use Rattle.storage_machine.specs.declared.state.State.{State}
-use Rattle.storage_model.specs.declared.faults.Letter.TheVariants.{Cut as PowerActs}
-use Rattle.storage_model.specs.declared.trace.Item.{Item}
 use Rattle.storage_model.specs.declared.trace.Item.TheVariants.{Phase, Cut}
-use Rattle.storage_order.specs.Events.{Fits, end_rule, ended, engine_step, may_pass, passed}
-use Rattle.storage_order.specs.Order.{engine_first, entered, forced, letters_left, untold_steps, with_due}
+use Rattle.storage_order.specs.Events.{Fits, engine_step, may_pass, passed}
+use Rattle.storage_order.specs.Order.{engine_first, forced, letters_left, with_due}
 use Rattle.storage_runs.proofs.Cuts.{due_cut_first}
 use Rattle.storage_runs.proofs.Ends.{First}
-use Rattle.storage_runs.proofs.Engines.{Enters, enters_first, hit_busy, untold_starts}
+use Rattle.storage_runs.proofs.Engines.{enters_first, hit_busy, untold_starts}
 use Rattle.storage_runs.proofs.Hosts.{no_letters}
 use Rattle.storage_runs.proofs.Hushes.{IsKept, Rests}
-use Rattle.storage_runs.proofs.Lags.{IsBusied, IsRecovered, IsTicked, Reached, due_busy}
+use Rattle.storage_runs.proofs.Lags.{IsBusied, IsTicked, Reached, due_busy}
 use Rattle.storage_runs.proofs.Lines.{event_none}
 use Rattle.storage_runs.proofs.Owns.{own_line}
 use Rattle.storage_runs.proofs.Phases.{busy_line, cut_by_busy, cut_by_event, due_event, hit_event, phase_line, phase_same}
 use Rattle.storage_runs.proofs.Turns.{behind_rested}
 use Rattle.storage_runs.specs.Laws.{StandsAt, rested}
 use Rattle.storage_runs.specs.Runs.{next_letter}
-use Rattle.trace_effects.specs.Effects.{effect}
-use Rattle.trace_rules.specs.Lines.{line_rule}
-use Rattle.trace_rules.specs.Steps.{event_rule, is_cut, is_cut_by, is_execute, is_nothing, stands_in, yields_to_cut}
+use Rattle.trace_rules.specs.Steps.{is_cut_by, is_execute, is_nothing, yields_to_cut}
 
 -- the acceptor between two events, none of which it was told of
 pub record Between (m s : State) : Type 0 where

@@ -1,5 +1,5 @@
 -- The event of the next letter is taken.
-use Rattle.std.proofs.Common.{◌≡◌, ◌∙◌, ◌⊎◌, ◌≤◌, ℕ, Bool, true, false, Option, Some, None, cond, ◌&&◌, ◌||◌, not, List, [], ◌∷◌, ◌++◌, refl, ap, sym}
+use Rattle.std.proofs.Common.{◌≡◌, ◌∙◌, ◌≤◌, ℕ, Bool, true, false, cond, List, [], ◌∷◌, ◌++◌, refl, ap}
 use Rattle.storage_machine.specs.Cuts.{is_due}
 use Rattle.storage_machine.specs.Host.{has_work, is_silent, recovery_step, to_do}
 use Rattle.storage_machine.specs.declared.state.Event.{Event}
@@ -9,17 +9,15 @@ use Rattle.storage_machine.specs.declared.state.State.{State}
 use Rattle.storage_model.specs.declared.faults.Letter.{Letter}
 use Rattle.storage_model.specs.declared.faults.Letter.TheVariants.{Host, Engine, Card, Cut as PowerActs}
 use Rattle.storage_model.specs.declared.trace.Item.{Item}
-use Rattle.storage_model.specs.declared.trace.Item.TheVariants.{Phase, Turn}
-use Rattle.storage_order.specs.Accept.{accept_from}
 use Rattle.storage_order.specs.Events.{Lasts, Makes, ended, ended_by}
-use Rattle.storage_order.specs.Order.{is_cut_phase, is_of_next, is_phase, letters_left}
+use Rattle.storage_order.specs.Order.{is_of_next}
 use Rattle.storage_runs.proofs.CardLast.{card_taken}
 use Rattle.storage_runs.proofs.Ends.{lasts_taken}
 use Rattle.storage_runs.proofs.Hushes.{engine_kept, recovery_kept, rests, unseen_letter}
-use Rattle.storage_runs.proofs.Told.{IsBegun, begun_facts, phase_uncut, quiet_taken, shown_due, shown_letter, told_first, untold_told}
+use Rattle.storage_runs.proofs.Told.{IsBegun, begun_facts, phase_uncut, quiet_taken, shown_letter, told_first, untold_told}
 use Rattle.storage_runs.proofs.Turns.{turn_taken}
 use Rattle.storage_runs.specs.Laws.{StandsAt, Takes, rested}
-use Rattle.storage_runs.specs.Runs.{Comes, StaysSo, Yields, begun_next, chosen, is_shown, next_letter, shown, with_letter}
+use Rattle.storage_runs.specs.Runs.{StaysSo, Yields, begun_next, is_shown, shown, with_letter}
 use Rattle.trace_effects.specs.Effects.{begun, begun_by, letters_used}
 
 ended_plan_by : (m : State) (event : Event) → (ended_by m event).plan ≡ m.plan
@@ -75,7 +73,7 @@ card_to_do : (s : State) (letters : ℕ) → to_do s ≡ true → to_do (begun (
 unfolding to_do begun
 card_to_do s letters some = some
 
-some_of_card : (s : State) (actor : Letter) → is_shown s actor ≡ true → to_do s ≡ true → actor ≡ Card → to_do (begun_next s actor) ≡ true
+pub some_of_card : (s : State) (actor : Letter) → is_shown s actor ≡ true → to_do s ≡ true → actor ≡ Card → to_do (begun_next s actor) ≡ true
 some_of_card s actor is some card = rw (is, card) (card_to_do s (letters_used s) some)
 
 letters_plan : (s : State) (is : Bool) → (cond is (record s { letters = letters_used s }) s).plan ≡ s.plan
@@ -89,7 +87,7 @@ rested_depth : (m : State) (actor : Letter) → 1 ≤ m.plan.depth → 1 ≤ (be
 rested_depth m actor depth =
     rw (ap (λ plan. plan.depth) (begun_plan (with_letter (rested m) actor) actor ∙ (shown_plan (rested m) actor ∙ ended_plan m))) depth
 
-begun_shown : (r : State) (actor : Letter) → is_shown r actor ≡ true → is_due r ≡ false → IsBegun (begun_next r actor) actor
+pub begun_shown : (r : State) (actor : Letter) → is_shown r actor ≡ true → is_due r ≡ false → IsBegun (begun_next r actor) actor
 begun_shown r actor is due = rw is (begun_facts r (letters_used r) actor due)
 
 shown_at : (m t : State) (actor : Letter) (items lines : List Item) → StandsAt m (rested m) → is_shown (rested m) actor ≡ true → is_due (rested m) ≡ false → to_do (rested m) ≡ true

@@ -1,5 +1,5 @@
 -- Each event that comes next is taken.
-use Rattle.std.proofs.Common.{inl, inr, ◌≡◌, ◌∙◌, ◌⊎◌, ◌≤◌, ℕ, zero, suc, Bool, true, false, Option, Some, None, cond, ◌&&◌, ◌||◌, not, slice_get, List, [], ◌∷◌, ◌++◌, append_assoc, append-nil, refl, ap, sym}
+use Rattle.std.proofs.Common.{inl, inr, ◌≡◌, ◌∙◌, ◌⊎◌, Bool, true, false, cond, ◌&&◌, not, slice_get, List, [], ◌∷◌, ◌++◌, append_assoc, append-nil, refl, ap, sym}
 use Rattle.std.proofs.lemmas.Bool.{false≢true}
 use Rattle.storage_machine.specs.Cuts.{is_due}
 use Rattle.storage_machine.specs.declared.state.Event.{Event}
@@ -8,18 +8,18 @@ use Rattle.storage_machine.specs.declared.state.Owed.TheVariants.{Nothing, End a
 use Rattle.storage_model.specs.declared.faults.Letter.{Letter}
 use Rattle.storage_model.specs.declared.faults.Letter.TheVariants.{Host, Engine, Card, Cut as PowerActs}
 use Rattle.storage_order.specs.Accept.{accept_from}
-use Rattle.storage_order.specs.Events.{Lasts, Makes, More, ended, ended_by}
+use Rattle.storage_order.specs.Events.{Makes, More, ended, ended_by}
 use Rattle.storage_runs.proofs.Hushes.{engine_kept}
 use Rattle.storage_runs.proofs.Texts.{begun_faults, effect_faults}
-use Rattle.trace_effects.specs.Effects.{begun, begun_by, effect, letters_used}
+use Rattle.trace_effects.specs.Effects.{begun, effect, letters_used}
 use Rattle.trace_rules.specs.Lines.{is_free, is_letter, same_letter}
 use Rattle.storage_machine.specs.declared.state.State.{State}
 use Rattle.storage_model.specs.declared.trace.Item.{Item}
 use Rattle.storage_runs.proofs.Shown.{shown_taken}
 use Rattle.storage_runs.proofs.Told.{shown_due}
 use Rattle.storage_runs.proofs.Untold.{untold_taken}
-use Rattle.storage_runs.specs.Laws.{Closes, HasEnded, IsRunTaken, IsTaken, StandsAt, Takes, joined, rested}
-use Rattle.storage_runs.specs.Runs.{Comes, Run, Unseen, begun_next, chosen, is_shown, with_letter}
+use Rattle.storage_runs.specs.Laws.{Closes, HasEnded, IsRunTaken, IsTaken, StandsAt, Takes, joined}
+use Rattle.storage_runs.specs.Runs.{Comes, Run, begun_next, chosen, is_shown, with_letter}
 
 taken_by : (m s t : State) (lines : List Item) (is : Bool) → is_shown s (chosen s) ≡ is → StandsAt m s → Comes s lines t → (is_shown s (chosen s) ≡ true) ⊎ (m.event ≡ Untold) → Takes m t lines
 taken_by m s t lines true is st comes either = shown_taken m s t (chosen s) comes.items lines st is (shown_due s is) comes.some comes.shows.printed comes.shows.happens.makes comes.cut comes.kept

@@ -1,6 +1,6 @@
 -- An event that a letter shows is taken.
-use Rattle.std.proofs.Common.{inl, inr, ◌≡◌, ◌∙◌, ◌⊎◌, ◌≤◌, ℕ, Bool, true, false, Option, Some, None, cond, ◌&&◌, ◌||◌, ◌==◌, not, List, [], ◌∷◌, ◌++◌, slice_get, refl, ap, sym}
-use Rattle.std.proofs.lemmas.Bool.{and_from, and_parts, and_right}
+use Rattle.std.proofs.Common.{inl, inr, ◌≡◌, ◌∙◌, ◌⊎◌, ◌≤◌, ℕ, Bool, true, false, Option, Some, None, cond, ◌&&◌, ◌||◌, ◌==◌, not, [], refl, ap, sym}
+use Rattle.std.proofs.lemmas.Bool.{and_parts, and_right}
 use Rattle.storage_machine.specs.Commands.{is_calm}
 use Rattle.storage_machine.specs.Cuts.{due_line, is_due}
 use Rattle.storage_machine.specs.Host.{has_work, is_silent, recovery_step, to_do}
@@ -11,15 +11,15 @@ use Rattle.storage_machine.specs.declared.state.State.{State}
 use Rattle.storage_model.specs.declared.faults.Letter.{Letter}
 use Rattle.storage_model.specs.declared.faults.Letter.TheVariants.{Host, Engine, Card, Cut as PowerActs}
 use Rattle.storage_model.specs.declared.trace.Item.{Item}
-use Rattle.storage_model.specs.declared.trace.Item.TheVariants.{Phase, Turn}
-use Rattle.storage_order.specs.Events.{Fits, Lasts, end_rule, ended, is_untold}
-use Rattle.storage_order.specs.Order.{is_cut_phase, is_of_next, is_phase, is_told, letters_left, starts, starts_at}
-use Rattle.storage_runs.proofs.Ends.{First, lasts_taken}
+use Rattle.storage_model.specs.declared.trace.Item.TheVariants.{Phase}
+use Rattle.storage_order.specs.Events.{Fits, end_rule, ended, is_untold}
+use Rattle.storage_order.specs.Order.{is_cut_phase, is_of_next, starts, starts_at}
+use Rattle.storage_runs.proofs.Ends.{First}
 use Rattle.storage_runs.proofs.Hushes.{recovery_kept}
 use Rattle.storage_runs.proofs.Lines.{event_none, order_same, settled_same}
 use Rattle.storage_runs.proofs.Turns.{ended_owed}
-use Rattle.storage_runs.specs.Laws.{StandsAt, Takes, rested}
-use Rattle.storage_runs.specs.Runs.{StaysSo, Yields, chosen, chosen_by, is_shown, next_letter}
+use Rattle.storage_runs.specs.Laws.{Takes}
+use Rattle.storage_runs.specs.Runs.{chosen, chosen_by, is_shown, next_letter}
 use Rattle.trace_effects.specs.Effects.{begun, begun_by}
 use Rattle.trace_rules.specs.Lines.{is_free, is_letter, same_letter}
 use Rattle.trace_rules.specs.Steps.{is_cut_by, is_due_event, is_left_so, is_line_of, is_nothing, stands_in, yields_to_cut}

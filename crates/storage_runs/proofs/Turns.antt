@@ -1,10 +1,10 @@
 -- The line of a letter is taken, and the event that it shows has begun.
-use Rattle.std.proofs.Common.{◌≡◌, ◌∙◌, ◌⊎◌, ◌≤◌, ◌<◌, ℕ, Bool, true, false, Option, Some, None, cond, ◌&&◌, ◌||◌, not, List, [], ◌∷◌, ◌++◌, length, nat_lt, slice_get, refl, ap, sym}
-use Rattle.std.proofs.lemmas.Bool.{and_parts, lt-ltb}
+use Rattle.std.proofs.Common.{◌≡◌, ◌∙◌, Bool, true, false, Some, None, cond, ◌&&◌, ◌||◌, not, List, ◌∷◌, refl, ap, sym}
+use Rattle.std.proofs.lemmas.Bool.{lt-ltb}
 use Rattle.std.proofs.lemmas.Option.{slice_get_within}
 use Rattle.storage_machine.specs.Commands.{is_calm}
 use Rattle.storage_machine.specs.Cuts.{due_line, is_due}
-use Rattle.storage_machine.specs.Host.{has_work, is_silent, recovery_step, recovery_steps, to_do}
+use Rattle.storage_machine.specs.Host.{recovery_steps, to_do}
 use Rattle.storage_machine.specs.declared.state.Event.{Event}
 use Rattle.storage_machine.specs.declared.state.Event.TheVariants.{Untold, Told, Due}
 use Rattle.storage_machine.specs.declared.state.Owed.{Owed}
@@ -15,16 +15,16 @@ use Rattle.storage_model.specs.declared.faults.Letter.TheVariants.{Host, Engine,
 use Rattle.storage_model.specs.declared.trace.Item.{Item}
 use Rattle.storage_model.specs.declared.trace.Item.TheVariants.{Turn}
 use Rattle.storage_order.specs.Accept.{accept_from}
-use Rattle.storage_order.specs.Events.{closed, end_rule, ended, ended_by, engine_step, is_untold, rule_of_end}
-use Rattle.storage_order.specs.Order.{entered, engine_first, forced, is_next, is_of_cut, is_of_next, is_told, left_behind, letters_left, order_rule, settled, start_rule, starts, starts_at, untold_steps, with_due}
-use Rattle.storage_runs.proofs.Hushes.{IsKept, Rests, engine_kept, rests, unseen_kept, unseen_letter}
+use Rattle.storage_order.specs.Events.{closed, end_rule, ended, ended_by, is_untold, rule_of_end}
+use Rattle.storage_order.specs.Order.{entered, engine_first, forced, is_of_next, left_behind, letters_left, order_rule, settled, start_rule, starts, starts_at, with_due}
+use Rattle.storage_runs.proofs.Hushes.{engine_kept, rests}
 use Rattle.storage_runs.proofs.Lines.{event_none, one_taken}
-use Rattle.storage_runs.proofs.Mores.{either_same, no_step, start_none}
+use Rattle.storage_runs.proofs.Mores.{no_step, start_none}
 use Rattle.storage_runs.specs.Laws.{StandsAt, rested}
-use Rattle.storage_runs.specs.Runs.{begun_next, chosen, is_shown, next_letter, with_letter}
-use Rattle.trace_effects.specs.Effects.{after_turn, begun, effect, letters_used}
-use Rattle.trace_rules.specs.Lines.{holds, is_free, is_letter, line_rule, owes_nothing, same_letter, turn_holds}
-use Rattle.trace_rules.specs.Steps.{event_rule, is_cut, is_line_of, is_nothing, lower, unless}
+use Rattle.storage_runs.specs.Runs.{begun_next, is_shown, next_letter}
+use Rattle.trace_effects.specs.Effects.{after_turn, effect}
+use Rattle.trace_rules.specs.Lines.{holds, is_free, line_rule, same_letter, turn_holds}
+use Rattle.trace_rules.specs.Steps.{event_rule, is_cut, is_line_of, is_nothing, lower}
 
 pub or_false : (b : Bool) → (b || false) ≡ true → b ≡ true
 or_false true e = refl

@@ -1,33 +1,33 @@
 -- An event that no letter tells is taken.
-use Rattle.std.proofs.Common.{inl, inr, ◌≡◌, ◌∙◌, ◌⊎◌, ◌≤◌, ℕ, zero, suc, Bool, true, false, Option, Some, None, cond, ◌&&◌, ◌||◌, not, slice_get, List, [], ◌∷◌, ◌++◌, refl, ap, sym}
+use Rattle.std.proofs.Common.{inl, ◌≡◌, ◌∙◌, ◌≤◌, ℕ, zero, suc, Bool, true, false, Option, Some, None, cond, ◌&&◌, ◌||◌, not, slice_get, List, [], ◌∷◌, ◌++◌, refl, ap, sym}
 use Rattle.std.proofs.lemmas.Bool.{false≢true, and_parts}
 use Rattle.storage_machine.specs.Commands.{is_calm}
 use Rattle.storage_machine.specs.Cuts.{is_due}
-use Rattle.storage_machine.specs.Host.{has_work, is_silent, recovery_step, to_do}
+use Rattle.storage_machine.specs.Host.{has_work, is_silent, recovery_step}
 use Rattle.storage_machine.specs.declared.state.Event.{Event}
 use Rattle.storage_machine.specs.declared.state.Event.TheVariants.{Untold, Told, Due}
 use Rattle.storage_machine.specs.declared.state.Owed.TheVariants.{Nothing}
 use Rattle.storage_machine.specs.declared.state.State.{State}
 use Rattle.storage_model.specs.declared.faults.Letter.{Letter}
-use Rattle.storage_model.specs.declared.faults.Letter.TheVariants.{Host, Engine, Card as CardActs, Cut as PowerActs}
+use Rattle.storage_model.specs.declared.faults.Letter.TheVariants.{Host, Engine, Cut as PowerActs}
 use Rattle.storage_model.specs.declared.trace.Item.{Item}
-use Rattle.storage_model.specs.declared.trace.Item.TheVariants.{Card, Issue, Params, Address, Poll, Phase, Discard, Bus, Flash, Recover, Irq, Done, Read, Sector, Status, Fault, Refused, Cut, Lost, On, Left, Turn, Off}
+use Rattle.storage_model.specs.declared.trace.Item.TheVariants.{Params, Address, Poll, Phase, Bus, Cut, Turn}
 use Rattle.storage_order.specs.Accept.{accept_from}
-use Rattle.storage_order.specs.Events.{Begins, Fits, Lasts, Makes, is_untold, shows_phase}
-use Rattle.storage_order.specs.Order.{letters_left, next_actor}
+use Rattle.storage_order.specs.Events.{Fits, Makes, is_untold, shows_phase}
+use Rattle.storage_order.specs.Order.{letters_left}
 use Rattle.storage_runs.proofs.Cuts.{engine_cut}
 use Rattle.storage_runs.proofs.Ends.{First, lasts_taken}
 use Rattle.storage_runs.proofs.Engines.{command_first}
 use Rattle.storage_runs.proofs.Hosts.{host_first, no_letters}
-use Rattle.storage_runs.proofs.Hushes.{IsKept, Rests, begun_unshown, letter_shown, rests, rests_kept, unseen_kept}
-use Rattle.storage_runs.proofs.Lags.{Reached, unseen_late, unseen_letters, unseen_reached}
+use Rattle.storage_runs.proofs.Hushes.{begun_unshown, letter_shown, rests, rests_kept, unseen_kept}
+use Rattle.storage_runs.proofs.Lags.{unseen_late, unseen_letters, unseen_reached}
 use Rattle.storage_runs.proofs.Phases.{engine_phase}
 use Rattle.storage_runs.proofs.Powers.{Between, power_cut, power_phase}
 use Rattle.storage_runs.proofs.Shown.{begun_by_plan, ended_plan}
-use Rattle.storage_runs.specs.Laws.{Closes, StandsAt, Takes, rested}
-use Rattle.storage_runs.specs.Runs.{Comes, StaysSo, Unseen, Yields, begun_next, chosen, chosen_by, is_shown, next_letter, shown}
+use Rattle.storage_runs.specs.Laws.{Closes, StandsAt, rested}
+use Rattle.storage_runs.specs.Runs.{Comes, StaysSo, Unseen, Yields, begun_next, chosen, chosen_by, is_shown, next_letter}
 use Rattle.trace_effects.specs.Effects.{begun_by}
-use Rattle.trace_rules.specs.Steps.{is_cut, is_line_of, is_nothing, is_under_way, stands_in, yields_to_cut}
+use Rattle.trace_rules.specs.Steps.{is_cut, is_line_of, is_nothing, is_under_way, yields_to_cut}
 
 pub between : (m s : State) → StandsAt m s → m.event ≡ Untold → Between m s
 between m s st e =
@@ -126,7 +126,7 @@ due_begun s due = ap (λ late. record s { event = cond late Due (Told PowerActs)
 due_by : (m s : State) (item : Item) → Between m s → is_due s ≡ true → Opens (begun_by s PowerActs) item → First m (begun_by s PowerActs) item
 due_by m s item x due opens = opens_at m (begun_by s PowerActs) (record s { event = Due }) item (due_begun s due) (due_opens m s item x due (rw (due_begun s due) at opens))
 
-chosen_first : (m s : State) (item : Item) (late : Bool) (letter : Option Letter) (actor : Letter) → is_due s ≡ late → next_letter s ≡ letter → actor ≡ cond late PowerActs (chosen_by s letter) → is_shown s actor ≡ false
+pub chosen_first : (m s : State) (item : Item) (late : Bool) (letter : Option Letter) (actor : Letter) → is_due s ≡ late → next_letter s ≡ letter → actor ≡ cond late PowerActs (chosen_by s letter) → is_shown s actor ≡ false
     → Between m s → Opens (begun_by s actor) item → First m (begun_by s actor) item
 chosen_first m s item true letter actor due at is unshown x opens = rw is (due_by m s item x due (rw is at opens))
 chosen_first m s item false (Some letter) actor due at is unshown x opens = absurd (false≢true (sym unshown ∙ (ap (λ a. is_shown s a) is ∙ letter_shown s letter at due)))

@@ -1,13 +1,14 @@
 -- The acceptance of traces takes every run, event by event. Between the lines it stands where the run does, but for events that print nothing.
-use Rattle.std.specs.Prelude.{◌≡◌, ◌⊎◌, ◌≤◌, ℕ, ◌||◌, Bool, true, false, not, Option, None, List, [], ◌∷◌, ◌++◌}
+use Rattle.std.specs.Prelude.{◌≡◌, ◌⊎◌, ◌≤◌, ℕ, ◌||◌, true, not, None, List, [], ◌∷◌, ◌++◌}
 use Rattle.storage_machine.specs.Cuts.{is_due}
+use Rattle.storage_machine.specs.Host.{to_do}
 use Rattle.storage_machine.specs.declared.state.Event.TheVariants.{Untold}
 use Rattle.storage_machine.specs.declared.state.Owed.TheVariants.{Nothing, End as Ended}
 use Rattle.storage_machine.specs.declared.state.State.{State}
 use Rattle.storage_model.specs.declared.trace.Item.{Item}
 use Rattle.storage_order.specs.Accept.{accept_from}
-use Rattle.storage_order.specs.Events.{end_rule, ended, is_untold}
-use Rattle.storage_runs.specs.Runs.{Comes, Run, Unseen, chosen, is_shown}
+use Rattle.storage_order.specs.Events.{Starts, end_rule, ended, is_untold}
+use Rattle.storage_runs.specs.Runs.{Comes, Run, StaysSo, Unseen, Yields, begun_next, chosen, is_shown, shown, with_letter}
 use Rattle.trace_rules.specs.Lines.{is_free}
 use Rattle.trace_rules.specs.Steps.{is_nothing}
 
@@ -53,3 +54,20 @@ joined (lines ∷ events) = lines ++ joined events
 -- a whole run without letters
 abbrev pub IsRunTaken : State → State → State → List (List Item) → Type 0
 IsRunTaken m s t events = StandsAt m s → m.event ≡ Untold → s.faults.turns ≡ [] → Run s events t → Closes m t (joined events)
+
+-- lines that begin the next event, and no more of it
+pub record Opens (s : State) (lines : List Item) (last : State) : Type 0 where
+  pub items : List Item
+  pub some : to_do s ≡ true
+  pub printed : lines ≡ shown s (chosen s) items
+  pub starts : Starts (with_letter s (chosen s)) (chosen s) items last
+  pub cut : Yields (begun_next s (chosen s)) items
+  pub kept : StaysSo (begun_next s (chosen s)) items
+
+-- they are taken, whatever follows
+pub record IsOpened (m : State) (lines : List Item) : Type 0 where
+  pub after : State
+  pub taken : (more : List Item) → accept_from (lines ++ more) m ≡ accept_from more after
+
+abbrev pub IsFrontTaken : State → State → State → List Item → Type 0
+IsFrontTaken m s last lines = StandsAt m s → (is_shown s (chosen s) ≡ true) ⊎ (m.event ≡ Untold) → Opens s lines last → IsOpened m lines
