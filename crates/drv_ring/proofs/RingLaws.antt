@@ -1,5 +1,5 @@
 -- What the layers above need of a tag's pieces: a write into them leaves what every slot asks for and what the other tags hold.
-use Rattle.std.proofs.Common.{◌≡◌, ◌≢◌, ℕ, ◌+◌, ◌*◌, ◌<◌, ◌≤◌, Bool, List, [], ◌∷◌, false, ◌∙◌, arith}
+use Rattle.std.proofs.Common.{◌≡◌, ◌≢◌, ℕ, ◌+◌, ◌*◌, ◌<◌, ◌≤◌, Bool, List, ◌∷◌, false, ◌∙◌, arith}
 use Rattle.std.proofs.lemmas.List.Elements.{All-tail}
 use Rattle.host_mem.specs.Memory.{Memory, HasRange, bytes_of}
 use Rattle.storage_model.specs.declared.block.Block.{Block}
@@ -13,7 +13,7 @@ use Rattle.piece_data.specs.Data.{parts}
 use Rattle.piece_data.specs.Laws.{HasSameSpace, IsApart, KeepsOthers}
 use Rattle.piece_data.proofs.Kept.{parts-apart}
 use Rattle.drv_ring.specs.declared.places.Layout.{Layout}
-use Rattle.drv_ring.specs.Layout.{list_of, table_at, HasLayout, IsTagOf}
+use Rattle.drv_ring.specs.Layout.{list_of, HasLayout, IsTagOf}
 use Rattle.drv_ring.specs.Pieces.{tag_pieces}
 use Rattle.drv_ring.specs.Asks.{Asks, HasBlocks, HoldsData}
 use Rattle.drv_ring.specs.Changes.{ChangesAmong, KeepsTag, area, slot_area, table_area}

@@ -1,5 +1,5 @@
 -- Each sector's last line stays found: the oldest line goes, a line comes behind all others, and a line is renewed.
-use Rattle.std.proofs.Common.{◌≡◌, ◌≢◌, ℕ, ◌+◌, ◌-◌, ◌<◌, ◌≤◌, ◌==◌, suc, zero, inl, inr, Bool, true, false, if◌then◌else◌, nat_lt, Option, Some, None, List, [], ◌∷◌, ◌++◌, get_or, length, remove, refl, sym, ap, subst, ◌∙◌, arith, length-append, take}
+use Rattle.std.proofs.Common.{◌≡◌, ◌≢◌, ℕ, ◌+◌, ◌-◌, ◌<◌, ◌≤◌, ◌==◌, suc, zero, inl, inr, false, if◌then◌else◌, Option, Some, None, List, [], ◌∷◌, ◌++◌, get_or, length, remove, refl, sym, ap, subst, ◌∙◌, arith, length-append, take}
 use Rattle.std.proofs.Math.ListN.{set, length-set}
 use Rattle.std.proofs.lemmas.Bool.{cases_Bool, cases_lt, eqb-true, eq-eqb, both_ways, false_from_ne_true, le-ltb}
 use Rattle.std.proofs.lemmas.List.{get_or_default}

@@ -1,4 +1,4 @@
-use Rattle.std.proofs.Common.{◌≡◌, ℕ, ◌+◌, ◌-◌, ap, ◌∙◌, arith}
+use Rattle.std.proofs.Common.{◌≡◌, ◌+◌, ◌-◌, ap, ◌∙◌, arith}
 use Rattle.cq_chain.specs.Descriptors.{size_of}
 use Rattle.drv_ring.specs.Layout.{row_at}
 use Rattle.drv_ring.proofs.Filled.{gap-none, gap-link}

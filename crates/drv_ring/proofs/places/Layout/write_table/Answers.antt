@@ -1,4 +1,4 @@
-use Rattle.std.proofs.Common.{◌≡◌, ℕ, sym, subst, ◌∙◌, arith, Ok}
+use Rattle.std.proofs.Common.{sym, subst, arith, Ok}
 use Rattle.cq_desc.specs.declared.xfer.Xfer.{Xfer}
 use Rattle.cq_desc.specs.Transfer.{IsXferInRange}
 use Rattle.cq_chain.specs.Descriptors.{Reads}
