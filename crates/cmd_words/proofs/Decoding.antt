@@ -2,10 +2,10 @@
 use Rattle.std.proofs.Common.{◌≡◌, ℕ, ◌^◌, ◌<◌, Bool, true, false, [], ◌∷◌, inl, inr, refl, sym, ap, lit<, get_or, eqb}
 use Rattle.std.specs.Prelude.{Ok}
 use Rattle.std.specs.Int.{from_bool}
-use Rattle.cmd_words.specs.declared.argument.TheConstants.{RCA}
 use Rattle.cmd_words.specs.declared.command.Command.{Command}
 use Rattle.cmd_words.specs.declared.command.Command.TheVariants.{Switch, Status, Params, Address, Execute, Manage, Other}
 use Rattle.cmd_words.specs.declared.command.Task.{Task}
+use Rattle.cmd_words.specs.Argument.{rca_bits}
 use Rattle.cmd_words.specs.Command.{index_of, argument_of, task_table, status_table, execute_table, manage_table, task_in, decoded, IsIllegal, IsExact, IsInRange}
 use Rattle.cq_words.specs.Table.{number_in, word_with, Fits, Holds}
 use Rattle.cq_words.proofs.TableLaws.{word_with-holds}
@@ -54,7 +54,7 @@ decoded-encoded (Status queue rca) range exact =
     let held : Holds (word_with (status_table queue rca)) (status_table queue rca) =
     word_with-holds (status_table queue rca) refl (range, (from_bool-lt queue, tt)) in
     let is_queue = from_bool-test queue _ held.1.0 in
-    let is_rca : number_in (word_with (status_table queue rca)) RCA ≡ rca = held.0 in
+    let is_rca : number_in (word_with (status_table queue rca)) rca_bits ≡ rca = held.0 in
     cc
 decoded-encoded (Params task) range exact = ap (λ (t : Task). Ok (Params t)) (task_in-argument task exact range)
 decoded-encoded (Address start) range exact = refl

@@ -1,6 +1,6 @@
-ghost use Rattle.std.specs.Prelude.{⊤, ◌≡◌, [], ◌∷◌, codes};
+ghost use Rattle.std.specs.Prelude.{⊤, ◌≡◌};
 ghost use Rattle.cq_words.specs.Table.{number_in};
-ghost use Rattle.cmd_words.specs.Status.{status_word};
+ghost use Rattle.cmd_words.specs.Status.{error_bits, error_table, ready_bit, state_bits, status_word};
 ghost use Rattle.std.specs.Int.RustNames.{bit_and};
 
 use bitflags::{Flag, Flags, bitflag_items};
@@ -53,9 +53,7 @@ impl Flags for Status {
 
     ghost exact = { ⊤ };
 
-    ghost use Rattle.cmd_words.specs.declared.status.TheConstants.Status.{ADDRESS_OUT_OF_RANGE, ADDRESS_MISALIGN, ILLEGAL_COMMAND, DEVICE_ECC_FAILED, ERROR, SWITCH_ERROR};
-
-    ghost table = { (codes "ADDRESS_OUT_OF_RANGE", ADDRESS_OUT_OF_RANGE.0) ∷ (codes "ADDRESS_MISALIGN", ADDRESS_MISALIGN.0) ∷ (codes "ILLEGAL_COMMAND", ILLEGAL_COMMAND.0) ∷ (codes "DEVICE_ECC_FAILED", DEVICE_ECC_FAILED.0) ∷ (codes "ERROR", ERROR.0) ∷ (codes "SWITCH_ERROR", SWITCH_ERROR.0) ∷ [] };
+    ghost table = { error_table };
 
     ghost set_of = { λ status. status.0 };
 
@@ -76,16 +74,16 @@ impl Status {
     /// The status word: the errors of the set beside the state, which is always 4 (tran), and READY_FOR_DATA.
     pub fn word(self) -> u32
         ensures value { result ≡ status_word self.0 }
-        ensures errors { bit_and result ERRORS ≡ bit_and self.0 ERRORS }
-        ensures state { number_in result CURRENT_STATE ≡ TRAN }
-        ensures ready { number_in result READY_FOR_DATA ≡ 1 }
+        ensures errors { bit_and result error_bits ≡ bit_and self.0 error_bits }
+        ensures state { number_in result state_bits ≡ 4 }
+        ensures ready { number_in result ready_bit ≡ 1 }
     {
         self.0 & ERRORS | IDLE
     }
 
     /// The errors that a status word shows.
     pub fn of_word(word: u32) -> Status
-        ensures { result.0 ≡ bit_and word ERRORS }
+        ensures { result.0 ≡ bit_and word error_bits }
     {
         Status::from_bits_truncate(word)
     }

@@ -8,14 +8,12 @@ use Rattle.cq_words.specs.Table.{number_in}
 use Rattle.ext_csd.specs.declared.csd.ExtCsd.{ExtCsd}
 use Rattle.ext_csd.specs.declared.field.Field.{Field}
 use Rattle.ext_csd.specs.declared.field.Field.TheVariants.{CmdqModeEn, BarrierCtrl, FlushCache, CacheCtrl}
-use Rattle.ext_csd.specs.declared.field.TheConstants.Field.{ALL}
 use Rattle.ext_csd.specs.declared.switch.Change.{Change}
 use Rattle.ext_csd.specs.declared.switch.Change.TheVariants.{Plain, Flush, Barrier}
 use Rattle.ext_csd.specs.declared.switch.SwitchError.{SwitchError}
-use Rattle.ext_csd.specs.declared.switch.TheConstants.{ACCESS, INDEX, VALUE}
-use Rattle.ext_csd.specs.Table.{row_of}
+use Rattle.ext_csd.specs.Table.{all_fields, row_of}
 use Rattle.ext_csd.specs.Values.{value_of, flag}
-use Rattle.ext_csd.specs.Switch.{writable_at, written, on_or_off, accepted, switched, Switched, ReadsNew, KeepsOthers}
+use Rattle.ext_csd.specs.Switch.{access_bits, index_bits, value_bits, writable_at, written, on_or_off, accepted, switched, Switched, ReadsNew, KeepsOthers}
 
 -- ---- the switches of a driver
 
@@ -62,7 +60,7 @@ unfolding writable_at
 found-index index field e =
     eqb-true (row_of field).index index
     (and_parts (row_of field).writable (eqb (row_of field).index index)
-    (find-true (λ f. (row_of f).writable && eqb (row_of f).index index) ALL field e)).1
+    (find-true (λ f. (row_of f).writable && eqb (row_of f).index index) all_fields field e)).1
 
 -- ---- what the new value changes
 
@@ -181,34 +179,34 @@ then_of g (Some x) y e = (x, refl, e)
 pub record Carried (csd : ExtCsd) (arg : ℕ) (s : Switched) : Type 0 where
   pub target : Field
   pub value : ℕ
-  pub found : writable_at (number_in arg INDEX) ≡ Some target
-  pub made : written (number_in arg ACCESS) (value_of csd target) (number_in arg VALUE) ≡ Some value
+  pub found : writable_at (number_in arg index_bits) ≡ Some target
+  pub made : written (number_in arg access_bits) (value_of csd target) (number_in arg value_bits) ≡ Some value
   pub taken : accepted csd target value ≡ Some s
 
 carried : (csd : ExtCsd) (arg : ℕ) (s : Switched) → switched csd arg ≡ Some s → Carried csd arg s
 unfolding switched
 carried csd arg s e =
-    let target = then_of _ (writable_at (number_in arg INDEX)) s e in
-    let value = then_of (accepted csd target.0) (written (number_in arg ACCESS) (value_of csd target.0) (number_in arg VALUE)) s target.2 in
+    let target = then_of _ (writable_at (number_in arg index_bits)) s e in
+    let value = then_of (accepted csd target.0) (written (number_in arg access_bits) (value_of csd target.0) (number_in arg value_bits)) s target.2 in
     record { target = target.0; value = value.0; found = target.1; made = value.1; taken = value.2 }
 
 switched-others : (csd : ExtCsd) (arg : ℕ) (s : Switched) → switched csd arg ≡ Some s
-    → (field : Field) → (row_of field).index ≢ number_in arg INDEX → value_of s.csd field ≡ value_of csd field
+    → (field : Field) → (row_of field).index ≢ number_in arg index_bits → value_of s.csd field ≡ value_of csd field
 switched-others csd arg s e field other =
     let how = carried csd arg s e in
     accepted-others csd how.target how.value s how.taken field
-    (λ same. other (same ∙ found-index (number_in arg INDEX) how.target how.found))
+    (λ same. other (same ∙ found-index (number_in arg index_bits) how.target how.found))
 
 switched-reads : (csd : ExtCsd) (arg : ℕ) (s : Switched) → switched csd arg ≡ Some s
-    → (field : Field) → (row_of field).index ≡ number_in arg INDEX → field ≢ FlushCache
-    → written (number_in arg ACCESS) (value_of csd field) (number_in arg VALUE) ≡ Some (value_of s.csd field)
+    → (field : Field) → (row_of field).index ≡ number_in arg index_bits → field ≢ FlushCache
+    → written (number_in arg access_bits) (value_of csd field) (number_in arg value_bits) ≡ Some (value_of s.csd field)
 switched-reads csd arg s e field here kept =
     let how = carried csd arg s e in
     let same : field ≡ how.target =
-    accepted-field csd how.target how.value s how.taken field (here ∙ sym (found-index (number_in arg INDEX) how.target how.found)) in
+    accepted-field csd how.target how.value s how.taken field (here ∙ sym (found-index (number_in arg index_bits) how.target how.found)) in
     let reads : how.value ≡ value_of s.csd how.target =
     accepted-reads csd how.target how.value s how.taken (λ flush. kept (same ∙ flush)) in
-    subst (λ (f : Field). written (number_in arg ACCESS) (value_of csd f) (number_in arg VALUE) ≡ Some (value_of s.csd f)) (sym same)
+    subst (λ (f : Field). written (number_in arg access_bits) (value_of csd f) (number_in arg value_bits) ≡ Some (value_of s.csd f)) (sym same)
     (how.made ∙ ap (λ n. Some n) reads)
 
 -- the same of an outcome

@@ -1,27 +1,36 @@
 -- SWITCH (CMD6), the command that writes the extended CSD (JESD84-B51, sections 6.10.4 and 7.4).
 use Rattle.std.specs.Prelude.{◌≡◌, ◌≢◌, ℕ, ◌-◌, ◌==◌, Bool, true, false, ◌&&◌, Option, Some, None, if◌then◌else◌, bit_and, bit_or, find, option_and_then}
 use Rattle.std.specs.Option.{option_map}
+use Rattle.cq_words.specs.declared.table.BitField.{BitField}
 use Rattle.cq_words.specs.Table.{number_in}
 use Rattle.ext_csd.specs.declared.csd.ExtCsd.{ExtCsd}
 use Rattle.ext_csd.specs.declared.field.Field.{Field}
 use Rattle.ext_csd.specs.declared.field.Field.TheVariants.{CmdqModeEn, BarrierCtrl, FlushCache, CacheCtrl}
-use Rattle.ext_csd.specs.declared.field.TheConstants.Field.{ALL}
 use Rattle.ext_csd.specs.declared.switch.Change.{Change}
 use Rattle.ext_csd.specs.declared.switch.Change.TheVariants.{Plain, Flush, Barrier, CacheOff}
-use Rattle.ext_csd.specs.declared.switch.TheConstants.{ACCESS, INDEX, VALUE, SET_BITS, CLEAR_BITS, WRITE_BYTE}
-use Rattle.ext_csd.specs.Table.{row_of}
+use Rattle.ext_csd.specs.Table.{all_fields, row_of}
 use Rattle.ext_csd.specs.Values.{value_of}
+
+-- the parts of the argument: the access, the index of the field, and the value
+abbrev pub access_bits : BitField
+access_bits = record { low = 24; width = 2 }
+
+abbrev pub index_bits : BitField
+index_bits = record { low = 16; width = 8 }
+
+abbrev pub value_bits : BitField
+value_bits = record { low = 8; width = 8 }
 
 -- the field that may be written and stands at an index
 unfoldable pub writable_at : ℕ → Option Field
-writable_at index = find (λ field. (row_of field).writable && ((row_of field).index == index)) ALL
+writable_at index = find (λ field. (row_of field).writable && ((row_of field).index == index)) all_fields
 
--- the new value by the access, which is one of three
+-- the new value by the access: 1 sets bits, 2 clears bits, 3 writes the byte
 abbrev pub written : (access old value : ℕ) → Option ℕ
 written access old value =
-    if access == SET_BITS then Some (bit_or old value)
-    else if access == CLEAR_BITS then Some (bit_and old (255 - value))
-    else if access == WRITE_BYTE then Some value
+    if access == 1 then Some (bit_or old value)
+    else if access == 2 then Some (bit_and old (255 - value))
+    else if access == 3 then Some value
     else None
 
 -- on for 1, off for 0, and no other value
@@ -51,16 +60,16 @@ accepted csd _ value = None
 unfoldable pub switched : ExtCsd → ℕ → Option Switched
 switched csd arg =
     option_and_then
-    (λ field. option_and_then (accepted csd field) (written (number_in arg ACCESS) (value_of csd field) (number_in arg VALUE)))
-    (writable_at (number_in arg INDEX))
+    (λ field. option_and_then (accepted csd field) (written (number_in arg access_bits) (value_of csd field) (number_in arg value_bits)))
+    (writable_at (number_in arg index_bits))
 
 -- the field at the argument's index reads as its new value, but for FLUSH_CACHE, which always reads as 0
 abbrev pub ReadsNew : ExtCsd → ℕ → ExtCsd → Type 0
 ReadsNew old arg new =
-    (field : Field) → (row_of field).index ≡ number_in arg INDEX → field ≢ FlushCache
-    → written (number_in arg ACCESS) (value_of old field) (number_in arg VALUE) ≡ Some (value_of new field)
+    (field : Field) → (row_of field).index ≡ number_in arg index_bits → field ≢ FlushCache
+    → written (number_in arg access_bits) (value_of old field) (number_in arg value_bits) ≡ Some (value_of new field)
 
 -- every field at another index reads as before
 abbrev pub KeepsOthers : ExtCsd → ℕ → ExtCsd → Type 0
 KeepsOthers old arg new =
-    (field : Field) → (row_of field).index ≢ number_in arg INDEX → value_of new field ≡ value_of old field
+    (field : Field) → (row_of field).index ≢ number_in arg index_bits → value_of new field ≡ value_of old field
