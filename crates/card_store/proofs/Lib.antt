@@ -10,3 +10,4 @@ pub mod Stagings
 pub mod Placing
 pub mod Turning
 pub mod Named
+pub mod Bare

@@ -1,5 +1,5 @@
 -- What a store of a card is seen as, and what it and an array stand for.
-use Rattle.std.specs.Prelude.{◌≡◌, ℕ, ◌+◌, ◌<◌, ◌≤◌, ◌==◌, Bool, false, if◌then◌else◌, nat_lt, List, [], ◌∷◌, ◌++◌, Option, Some, IfSome, MatchOption, option_map, length, slice_index_or}
+use Rattle.std.specs.Prelude.{◌≡◌, ℕ, ◌+◌, ◌<◌, ◌≤◌, ◌==◌, Bool, true, false, if◌then◌else◌, nat_lt, List, [], ◌∷◌, ◌++◌, Option, Some, None, IfSome, MatchOption, option_map, length, slice_index_or}
 use Rattle.std.specs.List.{list_any}
 use Rattle.storage_model.specs.Contents.{bars, contents_now, puts_at, sector_at}
 use Rattle.storage_model.specs.Keep.{keep_base, keep_pend}
@@ -62,6 +62,11 @@ has_last_put s pend = nat_lt 0 (length (puts_at (bars pend) s pend))
 -- of which sectors a list says so
 pub record Says (list : List Bool) (has : ℕ → Bool) : Type 0 where
   pub each : (s : ℕ) → s < 65536 → slice_index_or list s false ≡ has s
+
+-- The first sector from `from` on, and in front of `end`, that has it. None has it where there is none.
+abbrev pub IsFirstFrom : (ℕ → Bool) → (from end : ℕ) → Option ℕ → Type 0
+IsFirstFrom has from end (Some s) = (from ≤ s) × (s < end) × (has s ≡ true) × ((k : ℕ) → from ≤ k → k < s → has k ≡ false)
+IsFirstFrom has from end None = (k : ℕ) → from ≤ k → k < end → has k ≡ false
 
 -- of no sector
 abbrev pub none : ℕ → Bool

@@ -1,5 +1,5 @@
 ghost use Rattle.std.specs.Prelude.{◌≡◌, ◌⊎◌, ◌+◌, ◌<◌, ◌≤◌, ℕ, true, false, slice_index_or, slice_set, IfOk, length};
-ghost use Rattle.card_store.specs.Store.{Says, none};
+ghost use Rattle.card_store.specs.Store.{IsFirstFrom, Says, none};
 
 use std::alloc::Global;
 use std::marker::Model;
@@ -39,6 +39,19 @@ impl SectorSet {
         ensures { result ≡ slice_index_or self.now sector false }
     {
         self.has[sector as usize]
+    }
+
+    /// The first sector of the set from `from` on, and in front of `end`.
+    pub fn first_from(&self, from: u32, end: u32) -> Option<u32>
+        requires { end ≤ 65536 }
+        ensures { IsFirstFrom (λ s. slice_index_or self.now s false) from end result }
+    {
+        for sector in from..end {
+            if self.has(sector) {
+                return Some(sector);
+            }
+        }
+        None
     }
 
     pub fn insert(&mut self, sector: u32)

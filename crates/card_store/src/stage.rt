@@ -1,10 +1,10 @@
 // Lines of the cache on their way to the array.
-ghost use Rattle.std.specs.Prelude.{◌≡◌, ◌⊎◌, ◌<◌, ◌≤◌, true, false, [], drop, length, remove, slice_get, Some, OnOk, OnErr, Ok};
+ghost use Rattle.std.specs.Prelude.{◌≡◌, ◌⊎◌, ◌<◌, ◌≤◌, ◌==◌, true, false, not, [], drop, filter, length, remove, slice_get, Some, OnOk, OnErr, Ok};
 ghost use Rattle.std.specs.List.{AllByRecursion};
 ghost use Rattle.storage_model.specs.Keep.{is_named};
 ghost use Rattle.array_edge.specs.Array.{ArrayState, IsTorn, with_page};
 ghost use Rattle.intent_store.specs.Intent.{IntentStands, IsRefusedOff, StoreEnds, shown_by};
-ghost use Rattle.card_store.specs.Staging.{Fit, HasRoom, IsStaged, Places};
+ghost use Rattle.card_store.specs.Staging.{Fit, HasRoom, IsFull, IsStaged, Places, only_settled, with_line};
 
 use array_edge::{Array, ArrayEnd};
 use epoch_cache::{EpochCache, Full, Line};
@@ -59,9 +59,10 @@ pub fn stage_all<A: Array>(
     requires fit { Fit (record { cache = cache.old; known = intent.old; array = A.state array.old }) }
     ensures staged { IsStaged (record { cache = cache.old; known = intent.old; array = A.state array.old }) (record { cache = cache.new; known = intent.new; array = A.state array.new }) }
     ensures ok { OnOk result (cache.new.lines ≡ []) }
+    ensures bare { cache.old.lines ≡ [] → (result ≡ Ok tt) × (A.state array.new ≡ A.state array.old) }
     ensures ends { StoreEnds (A.state array.old) (A.state array.new) result }
 {
-    while cache.oldest_line().is_some() {
+    while cache.has_lines() {
         stage_oldest(cache, intent, array)?;
     }
     Ok(())
@@ -76,6 +77,7 @@ pub fn stage_older<A: Array>(
     requires fit { Fit (record { cache = cache.old; known = intent.old; array = A.state array.old }) }
     ensures staged { IsStaged (record { cache = cache.old; known = intent.old; array = A.state array.old }) (record { cache = cache.new; known = intent.new; array = A.state array.new }) }
     ensures ok { OnOk result (AllByRecursion (λ line. line.epoch ≡ cache.new.last) cache.new.lines) }
+    ensures left { OnOk result (cache.new.lines ≡ filter (λ line. line.epoch == cache.old.last) cache.old.lines) }
     ensures ends { StoreEnds (A.state array.old) (A.state array.new) result }
 {
     while cache.older() {
@@ -101,7 +103,7 @@ fn stage_at<A: Array>(
     ensures ends { StoreEnds (A.state array.old) (A.state array.new) result }
 {
     program(line, intent, array)?;
-    cache.drop_at(line.sector);
+    cache.drop_oldest_at(k);
     Ok(())
 }
 
@@ -118,6 +120,7 @@ pub fn stage_named<A: Array>(
     ensures staged { IsStaged (record { cache = cache.old; known = intent.old; array = A.state array.old }) (record { cache = cache.new; known = intent.new; array = A.state array.new }) }
     ensures now { OnOk result (AllByRecursion (λ line. line.epoch ≡ cache.new.last) cache.new.lines) }
     ensures ok { OnOk result (AllByRecursion (λ line. is_named first blocks line.sector ≡ false) cache.new.lines) }
+    ensures left { OnOk result (cache.new.lines ≡ filter (λ line. not (is_named first blocks line.sector)) cache.old.lines) }
     ensures ends { StoreEnds (A.state array.old) (A.state array.new) result }
 {
     let mut k = 0;
@@ -154,6 +157,9 @@ pub fn place<A: Array>(
     ensures ok { OnOk result (Places put.now cache.old (A.state array.old) cache.new (A.state array.new)) }
     ensures err { OnErr result (IsStaged (record { cache = cache.old; known = intent.old; array = A.state array.old }) (record { cache = cache.new; known = intent.new; array = A.state array.new })) }
     ensures free { HasRoom put.now cache.old → (result ≡ Ok tt) × (A.state array.new ≡ A.state array.old) }
+    ensures line { HasRoom put.now cache.old → cache.new ≡ with_line put.now cache.old }
+    ensures full { IsFull put.now cache.old → OnOk result (cache.new ≡ with_line put.now (record cache.old { lines = drop 1 cache.old.lines })) }
+    ensures kept { OnErr result (cache.new ≡ cache.old) }
     ensures ends { StoreEnds (A.state array.old) (A.state array.new) result }
 {
     if let Ok(()) = cache.put(put) {
@@ -169,6 +175,8 @@ pub fn place<A: Array>(
 // Makes what was programmed durable.
 pub fn settle<A: Array>(array: &mut A) -> Result<(), StoreEnd>
     ensures same { (A.state array.new).told ≡ (A.state array.old).told }
+    ensures only { A.state array.new ≡ only_settled (A.state array.old) (A.state array.new) }
+    ensures settled { OnOk result ((A.state array.new).settled ≡ true) }
     ensures ends { StoreEnds (A.state array.old) (A.state array.new) result }
 {
     match array.settle() {

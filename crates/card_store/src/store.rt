@@ -1,14 +1,15 @@
-ghost use Rattle.std.specs.Prelude.{◌≡◌, ◌↔◌, ◌⊎◌, ◌<◌, ◌≤◌, true, [], drop, length, max, slice_index_or, Option, Some, None, IfSome, MatchOption, IsErrOf, IsSome, IfOk, OnOk, OnErr, Ok, option_map};
+ghost use Rattle.std.specs.Prelude.{◌≡◌, ◌↔◌, ◌⊎◌, ◌<◌, ◌≤◌, true, false, [], drop, length, max, slice_index_or, Option, Some, None, IfSome, MatchOption, IsErrOf, IsSome, IfOk, OnOk, OnErr, Ok, is_ok, option_map};
 ghost use Rattle.storage_model.specs.Contents.{contents_now, sector_at};
 ghost use Rattle.storage_model.specs.Left.{is_left};
 ghost use Rattle.storage_model.specs.Keep.{every_sector, is_named};
 ghost use Rattle.array_edge.specs.Array.{ArrayState};
+ghost use Rattle.intent_store.specs.Calls.{Opens};
 ghost use Rattle.intent_store.specs.Intent.{IntentStands, IsNoImage, ShowsImage, StartEnds, StoreEnds, shown_by};
 ghost use Rattle.intent_store.specs.declared.ends.StartEnd.TheVariants.{BadImage};
 ghost use Rattle.card_store.specs.declared.ends.StageEnd.TheVariants.{Empty};
 ghost use Rattle.epoch_cache.specs.Cache.{newest_of, next_epoch};
-ghost use Rattle.card_store.specs.Staging.{HasRoom, StageEnds};
-ghost use Rattle.card_store.specs.Store.{Contents, HasSector, HasSectors, IsOpen, IsSameStore, Reads, Stands, Store, Turns, has_put, kept, same, sectors_of, with_bar, with_put};
+ghost use Rattle.card_store.specs.Staging.{HasRoom, IsFull, StageEnds, only_settled, spared, with_line};
+ghost use Rattle.card_store.specs.Store.{Contents, HasSector, IsFirstFrom, HasSectors, IsOpen, IsSameStore, Reads, Stands, Store, Turns, has_put, kept, same, sectors_of, with_bar, with_put};
 
 use crate::StageEnd;
 use crate::sector_set::SectorSet;
@@ -53,11 +54,12 @@ impl CardStore {
         })
     }
 
-    /// The number of sectors of the image.
+    /// The number of sectors of the image. What the array shows of them may be left by a loss of power at any moment.
     pub fn sectors(&self) -> u32
         requires { IsSome self.now.known }
         ensures value { sectors_of self.now ≡ Some result }
         ensures most { result ≤ 65536 }
+        ensures left { (c : Contents) → (array : ArrayState) → Stands c self.now array → IfSome (shown_by array) (λ shown. is_left c.base c.pend shown ≡ true) }
     {
         match &self.intent {
             Some(intent) => intent.sectors(),
@@ -69,10 +71,19 @@ impl CardStore {
     pub fn pending(&self, sector: u32) -> bool
         requires { HasSector self.now sector }
         ensures value { (c : Contents) → (array : ArrayState) → Stands c self.now array → result ≡ has_put sector c.pend }
-        ensures left { (c : Contents) → (array : ArrayState) → Stands c self.now array → IfSome (shown_by array) (λ shown. is_left c.base c.pend shown ≡ true) }
+        ensures bare { result ≡ false → (c : Contents) → (array : ArrayState) → Stands c self.now array → IfSome (shown_by array) (λ shown. sector_at shown sector ≡ sector_at c.base sector) }
     {
         prove!(self.sectors() <= 65536);
         self.pending.has(sector)
+    }
+
+    /// The first sector from `from` on that has a pending put.
+    pub fn next_pending(&self, from: u32) -> Option<u32>
+        requires { IsSome self.now.known }
+        ensures some { IfSome result (HasSector self.now) }
+        ensures next { (c : Contents) → (array : ArrayState) → Stands c self.now array → IsFirstFrom (λ s. has_put s c.pend) from (length c.base) result }
+    {
+        self.pending.first_from(from, self.sectors())
     }
 
     /// Puts a value into the cache. Where that is full the oldest line is staged before.
@@ -84,6 +95,9 @@ impl CardStore {
         ensures ok { OnOk result (Turns (with_put put.now) self.old (A.state array.old) self.new (A.state array.new)) }
         ensures err { OnErr result (Turns same self.old (A.state array.old) self.new (A.state array.new)) }
         ensures free { HasRoom put.now self.old.cache → (result ≡ Ok tt) × (A.state array.new ≡ A.state array.old) }
+        ensures line { HasRoom put.now self.old.cache → self.new.cache ≡ with_line put.now self.old.cache }
+        ensures full { IsFull put.now self.old.cache → OnOk result (self.new.cache ≡ with_line put.now (record self.old.cache { lines = drop 1 self.old.cache.lines })) }
+        ensures kept { OnErr result (self.new.cache ≡ self.old.cache) }
         ensures ends { StoreEnds (A.state array.old) (A.state array.new) result }
     {
         let Some(intent) = &mut self.intent else {
@@ -120,7 +134,8 @@ impl CardStore {
         ensures store { IsSameStore self.old self.new }
         ensures ok { OnOk result (Reads self.old (A.state array.old) sector block.new) }
         ensures turns { Turns same self.old (A.state array.old) self.new (A.state array.new) }
-        ensures told { (A.state array.new).told ≡ (A.state array.old).told }
+        ensures cache { self.new.cache ≡ self.old.cache }
+        ensures same { A.state array.new ≡ record (A.state array.old) { faults = (A.state array.new).faults; fetches = (A.state array.new).fetches } }
         ensures line { (newest_of sector self.old.cache.lines ≡ None) ⊎ ((result ≡ Ok tt) × (A.state array.new ≡ A.state array.old)) }
         ensures ends { StoreEnds (A.state array.old) (A.state array.new) result }
     {
@@ -134,13 +149,16 @@ impl CardStore {
         intent.read(sector, block, array)
     }
 
-    /// Stages all lines, the oldest first, and makes them durable (JESD84-B51, the flush of the cache).
+    /// Stages all lines, the oldest first, and makes them durable (JESD84-B51, the flush of the cache). Where no line is held
+    /// it only makes durable.
     pub fn flush<A: Array>(&mut self, array: &mut A) -> Result<(), StoreEnd>
         requires open { IsOpen self.old (A.state array.old) }
         ensures open { IsOpen self.new (A.state array.new) }
         ensures store { IsSameStore self.old self.new }
         ensures ok { OnOk result (Turns (kept every_sector) self.old (A.state array.old) self.new (A.state array.new)) }
         ensures empty { OnOk result (self.new.cache.lines ≡ []) }
+        ensures settled { OnOk result ((A.state array.new).settled ≡ true) }
+        ensures bare { self.old.cache.lines ≡ [] → A.state array.new ≡ only_settled (A.state array.old) (A.state array.new) }
         ensures err { OnErr result (Turns same self.old (A.state array.old) self.new (A.state array.new)) }
         ensures ends { StoreEnds (A.state array.old) (A.state array.new) result }
     {
@@ -165,6 +183,8 @@ impl CardStore {
         ensures was_image { ShowsImage (A.state array.new) → ShowsImage (A.state array.old) }
         ensures bad { IsErrOf result BadImage → IsNoImage (A.state array.old) }
         ensures ok { OnOk result (ShowsImage (A.state array.old)) }
+        ensures calls { Opens (record (A.state array.old) { powered = true }) (A.state array.new) (is_ok result) }
+        ensures few { (A.state array.old).count < 2 → IsErrOf result BadImage × (A.state array.new ≡ record (A.state array.old) { powered = true }) }
         ensures ends { StartEnds (A.state array.old) (A.state array.new) result }
     {
         self.cache.clear();
@@ -185,10 +205,11 @@ impl CardStore {
         ensures empty { IsErrOf result Empty ↔ (self.old.cache.lines ≡ []) }
         ensures none { IsErrOf result Empty → A.state array.new ≡ A.state array.old }
         ensures ok { OnOk result (self.new.cache ≡ record self.old.cache { lines = drop 1 self.old.cache.lines }) }
+        ensures err { OnErr result (self.new.cache ≡ self.old.cache) }
         ensures turns { Turns same self.old (A.state array.old) self.new (A.state array.new) }
         ensures ends { StageEnds (A.state array.old) (A.state array.new) result }
     {
-        if self.cache.oldest_line().is_none() {
+        if !self.cache.has_lines() {
             return Err(StageEnd::Empty);
         }
         let Some(intent) = &mut self.intent else {
@@ -209,6 +230,8 @@ impl CardStore {
         ensures open { IsOpen self.new (A.state array.new) }
         ensures store { IsSameStore self.old self.new }
         ensures ok { OnOk result (Turns (kept (is_named first blocks)) self.old (A.state array.old) self.new (A.state array.new)) }
+        ensures lines { OnOk result (self.new.cache.lines ≡ spared first blocks self.old.cache) }
+        ensures settled { OnOk result ((A.state array.new).settled ≡ true) }
         ensures err { OnErr result (Turns same self.old (A.state array.old) self.new (A.state array.new)) }
         ensures ends { StoreEnds (A.state array.old) (A.state array.new) result }
     {

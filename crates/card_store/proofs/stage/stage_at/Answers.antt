@@ -1,7 +1,8 @@
-use Rattle.std.proofs.Common.{◌≡◌, ◌<◌, List, refl, remove, ap, ◌∙◌}
+use Rattle.std.proofs.Common.{◌≡◌, ◌<◌, refl, remove}
+use Rattle.std.proofs.lemmas.Option.{slice_get_within}
 use Rattle.epoch_cache.specs.declared.line.Line.{Line}
 use Rattle.epoch_cache.proofs.CacheSteps.{all_less}
-use Rattle.card_store.proofs.Named.{among_last, last_in_front, out_of_last}
+use Rattle.card_store.proofs.Named.{last_in_front}
 use Rattle.card_store.proofs.Steps.{programmed_badly, programmed_well}
 use Rattle.card_store.proofs.stage.stage_at.Goals as goal
 
@@ -16,16 +17,13 @@ returns-in_err-program-clause-staged g c = record {
       (λ ordinary. c.in_err-program.ensures.torn ordinary) (λ whole. c.in_err-program.ensures.whole whole) stands;
 }
 
-pub drop_at-requires : goal.drop_at-requires
-drop_at-requires g c = among_last c.args.cache.now.lines c.args.cache.now.last c.args.k c.args.line.now c.requires.line c.requires.now
-
-pub returns-clause-ok : goal.returns-clause-ok
-returns-clause-ok g c = c.drop_at.ensures.dropped ∙ ap (λ (lines : List Line). record c.args.cache.now { lines = lines }) (out_of_last c.args.cache.now.lines c.args.cache.now.last c.args.k c.args.line.now c.requires.fit.is_cache.order c.requires.line c.requires.now)
+pub drop_oldest_at-requires : goal.drop_oldest_at-requires
+drop_oldest_at-requires g c = slice_get_within c.args.cache.now.lines c.args.k c.args.line.now c.requires.line
 
 pub returns-clause-staged : goal.returns-clause-staged
 returns-clause-staged g c =
-    let dropped : c.drop_at.new.self ≡ record c.args.cache.now { lines = remove c.args.cache.now.lines c.args.k } = c.drop_at.ensures.dropped ∙ ap (λ (lines : List Line). record c.args.cache.now { lines = lines }) (out_of_last c.args.cache.now.lines c.args.cache.now.last c.args.k c.args.line.now c.requires.fit.is_cache.order c.requires.line c.requires.now) in
-    let is_cache = rw dropped at c.drop_at.ensures.is_cache in
+    let dropped : c.drop_oldest_at.new.self ≡ record c.args.cache.now { lines = remove c.args.cache.now.lines c.args.k } = c.drop_oldest_at.ensures.dropped in
+    let is_cache = rw dropped at c.drop_oldest_at.ensures.is_cache in
     rw dropped (record {
       fit = record {
         is_cache = is_cache;
