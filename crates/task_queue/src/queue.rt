@@ -1,6 +1,6 @@
-ghost use Rattle.std.specs.Prelude.{◌≡◌, ◌≤◌, ◌↔◌, ℕ, Some, None, IfOk, IfSome, OnOk, OnErr, length, replicate};
+ghost use Rattle.std.specs.Prelude.{◌≡◌, ◌≤◌, ◌==◌, ◌↔◌, ℕ, Some, None, IfOk, IfSome, OnOk, OnErr, length, replicate};
 ghost use Rattle.std.specs.Int.{bit_at};
-ghost use Rattle.task_queue.specs.Queue.{slot, empty, params_answer, address_answer, addressed, take_answer, taken, discarded, ready_word, queued_word, IsReady};
+ghost use Rattle.task_queue.specs.Queue.{slot, empty, params_answer, address_answer, addressed, take_answer, taken, discarded, ready_word, chosen, IsReady, is_ready, marked, ready_bits, with_mark};
 
 use arrayvec::ArrayVec;
 use cmd_words::Task;
@@ -11,6 +11,13 @@ use std::marker::Model;
 pub struct Queued {
     pub task: Task,
     pub start: u32,
+}
+
+/// A queued task in its place, and whether it is ready.
+#[derive(Clone, Copy, Debug, PartialEq, Eq)]
+pub struct Place {
+    pub queued: Queued,
+    pub ready: bool,
 }
 
 /// Why a call of the queue was refused.
@@ -28,12 +35,10 @@ pub enum QueueRefusal {
     NotReady,
 }
 
-/// The queue: a place for each task below the depth, the task that CMD44 named and CMD45 has not, and the last choice of
-/// ready tasks, less the tasks that were queued since. The queued tasks of the choice are ready.
+/// The queue: a place for each task below the depth, and the task that CMD44 named and CMD45 has not.
 #[derive(Debug, Drop)]
 pub struct TaskQueue {
-    slots: ArrayVec<Option<Queued>, 31>,
-    choice: u32,
+    slots: ArrayVec<Option<Place>, 31>,
     waiting: Option<Task>,
 }
 
@@ -42,7 +47,7 @@ impl Model for TaskQueue {
 
     ghost Value = { Queue };
 
-    ghost view = { λ q. record { slots = q.slots.items; choice = q.choice; waiting = q.waiting } };
+    ghost view = { λ q. record { slots = q.slots.items; waiting = q.waiting } };
 
     ghost invariant = { λ q. IsKept q.slots.items q.waiting };
 }
@@ -55,7 +60,6 @@ impl TaskQueue {
     {
         TaskQueue {
             slots: no_tasks(usize::from(depth)),
-            choice: 0,
             waiting: None,
         }
     }
@@ -90,16 +94,18 @@ impl TaskQueue {
             return Err(QueueRefusal::NoParams);
         };
         self.waiting = None;
-        self.choice &= !(1 << task.task);
-        self.slots.as_mut_slice()[usize::from(task.task)] = Some(Queued { task, start });
+        self.slots.as_mut_slice()[usize::from(task.task)] = Some(Place {
+            queued: Queued { task, start },
+            ready: false,
+        });
         Ok(task.task)
     }
 
     /// Makes the queued tasks of `mask` ready, and no others: bit n is for task n.
     pub fn make_ready(&mut self, mask: u32)
-        ensures { self.new ≡ record self.old { choice = mask } }
+        ensures { self.new ≡ chosen self.old mask }
     {
-        self.choice = mask;
+        self.slots = marked(self.slots.as_slice(), mask);
     }
 
     /// The queue status word: bit n is set where task n is queued and ready.
@@ -107,7 +113,7 @@ impl TaskQueue {
         ensures value { result ≡ ready_word self.now }
         ensures bits { (task : ℕ) → (bit_at result task ≡ 1) ↔ IsReady self.now task }
     {
-        self.choice & queued_bits(self.slots.as_slice())
+        ready_bits(self.slots.as_slice())
     }
 
     /// The task of a number, if it is queued.
@@ -115,7 +121,8 @@ impl TaskQueue {
         ensures value { result ≡ slot self.now task }
         ensures number { IfSome result (λ queued. queued.task.task ≡ task) }
     {
-        *self.slots.as_slice().get(usize::from(task))?
+        let place = (*self.slots.as_slice().get(usize::from(task))?)?;
+        Some(place.queued)
     }
 
     /// CMD46 and CMD47: takes a ready task out of the queue.
@@ -125,16 +132,26 @@ impl TaskQueue {
         ensures ok { OnOk result (self.new ≡ taken self.old task) }
         ensures err { OnErr result (self.new ≡ self.old) }
     {
-        let place = usize::from(task);
-        if place >= self.slots.len() {
+        let Some(slot) = self.slots.as_slice().get(usize::from(task)) else {
             return Err(QueueRefusal::PastDepth);
-        }
-        if self.choice >> task & 1 == 0 {
+        };
+        let Some(place) = *slot else {
+            return Err(QueueRefusal::NotReady);
+        };
+        if !place.ready {
             return Err(QueueRefusal::NotReady);
         }
-        match self.slots.as_mut_slice()[place].take() {
-            Some(queued) => Ok(queued),
-            None => Err(QueueRefusal::NotReady),
+        self.clear(task);
+        Ok(place.queued)
+    }
+
+    // Takes a task out of its place, if it is queued.
+    fn clear(&mut self, task: u8)
+        ensures { self.new ≡ taken self.old task }
+    {
+        let place = usize::from(task);
+        if place < self.slots.len() {
+            self.slots.as_mut_slice()[place] = None;
         }
     }
 
@@ -145,18 +162,13 @@ impl TaskQueue {
         self.waiting = None;
         match which {
             None => self.slots = no_tasks(self.slots.len()),
-            Some(task) => {
-                let place = usize::from(task);
-                if place < self.slots.len() {
-                    self.slots.as_mut_slice()[place] = None;
-                }
-            }
+            Some(task) => self.clear(task),
         }
     }
 }
 
 // A place for each of so many tasks, all empty.
-fn no_tasks(depth: usize) -> ArrayVec<Option<Queued>, 31>
+fn no_tasks(depth: usize) -> ArrayVec<Option<Place>, 31>
     requires { depth ≤ 31 }
     ensures { result.items ≡ replicate depth None }
 {
@@ -167,14 +179,51 @@ fn no_tasks(depth: usize) -> ArrayVec<Option<Queued>, 31>
     slots
 }
 
-// The word with a bit for each task that is queued.
-fn queued_bits(slots: &[Option<Queued>]) -> u32
+// The places with the queued tasks of the mask ready, and no others.
+fn marked(slots: &[Option<Place>], mask: u32) -> ArrayVec<Option<Place>, 31>
     requires { length slots.now ≤ 31 }
-    ensures { result ≡ queued_word slots.now }
+    ensures { result.items ≡ marked mask slots.now }
+{
+    let mut places = ArrayVec::new();
+    for (task, slot) in slots.iter().enumerate() {
+        places.push(with_mark(*slot, has_bit(mask, task)));
+    }
+    places
+}
+
+fn has_bit(mask: u32, task: usize) -> bool
+    requires { task ≤ 31 }
+    ensures { result ≡ (bit_at mask task == 1) }
+{
+    mask >> task & 1 == 1
+}
+
+fn with_mark(slot: Option<Place>, ready: bool) -> Option<Place>
+    ensures { result ≡ with_mark ready slot }
+{
+    match slot {
+        Some(place) => Some(Place { ready, ..place }),
+        None => None,
+    }
+}
+
+// The word with a bit for each task that is ready.
+fn ready_bits(slots: &[Option<Place>]) -> u32
+    requires { length slots.now ≤ 31 }
+    ensures { result ≡ ready_bits slots.now }
 {
     let mut word = 0;
     for (task, slot) in slots.iter().enumerate() {
-        word += u32::from(slot.is_some()) << task;
+        word += u32::from(is_ready(slot)) << task;
     }
     word
+}
+
+fn is_ready(slot: &Option<Place>) -> bool
+    ensures { result ≡ is_ready slot.now }
+{
+    match slot {
+        Some(place) => place.ready,
+        None => false,
+    }
 }
