@@ -4,7 +4,8 @@ use Rattle.std.proofs.lemmas.Bool.{cases_order, ne_eqb}
 use Rattle.std.proofs.lemmas.List.{get_or_default}
 use Rattle.std.specs.List.{find}
 use Rattle.storage_model.specs.declared.faults.Hit.{Hit}
-use Rattle.bus_link.specs.Hits.{IsPast, IsValidHits, fault_of}
+use Rattle.storage_model.specs.Faults.{IsValidHits}
+use Rattle.bus_link.specs.Hits.{IsPast, fault_of}
 
 found_at : (p : Hit → Bool) (xs : List Hit) (at : ℕ) (d : Hit) → at < length xs → ((k : ℕ) → k < at → p (get_or xs k d) ≡ false)
     → p (get_or xs at d) ≡ true → find p xs ≡ Some (get_or xs at d)

@@ -1,7 +1,7 @@
 -- The bus faults that a script has: which of them befalls a command. A lost command, a response that does not come and
 -- failing data are what a host controller reports as the timeouts and CRC errors of command and data.
 use Rattle.std.specs.Prelude.{◌<◌, ◌≤◌, ℕ, ◌+◌, ◌-◌, ◌^◌, ◌==◌, ◌&&◌, nat_le, Bool, true, false, List, length, Option, Some, None, if◌then◌else◌, slice_index_or, min}
-use Rattle.std.specs.List.{AllPairs, find}
+use Rattle.std.specs.List.{find}
 use Rattle.storage_model.specs.declared.faults.BusKind.{BusKind}
 use Rattle.storage_model.specs.declared.faults.BusKind.TheVariants.{Lost, NoResp, Bad, Late}
 use Rattle.storage_model.specs.declared.faults.Hit.{Hit}
@@ -36,10 +36,6 @@ if_of_kind (Some hit) command blocks = if befalls hit.kind command blocks then S
 -- the fault that befalls the command of a number, which has so many blocks
 abbrev pub hit_of : List Hit → ℕ → Command → ℕ → Option BusKind
 hit_of hits n command blocks = if_of_kind (fault_of hits n) command blocks
-
--- the numbers rise
-abbrev pub IsValidHits : List Hit → Type 0
-IsValidHits hits = AllPairs (λ hit later. hit.n < later.n) hits
 
 -- a place in the list, before which each fault has a smaller number
 pub record IsPast (hits : List Hit) (n place : ℕ) : Type 0 where

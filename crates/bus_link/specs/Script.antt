@@ -6,7 +6,8 @@ use Rattle.storage_model.specs.declared.faults.BusKind.{BusKind}
 use Rattle.storage_model.specs.declared.faults.Hit.{Hit}
 use Rattle.cmd_words.specs.declared.command.Command.{Command}
 use Rattle.cmd_words.specs.Command.{index_of, argument_of}
-use Rattle.bus_link.specs.Hits.{hit_of, raised, IsPast, IsValidHits}
+use Rattle.storage_model.specs.Faults.{IsValidHits}
+use Rattle.bus_link.specs.Hits.{hit_of, raised, IsPast}
 
 -- `used`: how many words of polls were used. `recent`: the last 32 commands by index and argument, the newest last.
 pub record Script : Type 0 where

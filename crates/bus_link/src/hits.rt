@@ -1,5 +1,6 @@
 ghost use Rattle.std.specs.Prelude.{◌≡◌};
-ghost use Rattle.bus_link.specs.Hits.{IsPast, IsValidHits, befalls, fault_of, is_execute};
+ghost use Rattle.storage_model.specs.Faults.{IsValidHits};
+ghost use Rattle.bus_link.specs.Hits.{IsPast, befalls, fault_of, is_execute};
 
 use cmd_words::Command;
 use storage_model::{BusKind, Hit};

@@ -1,5 +1,6 @@
 ghost use Rattle.std.specs.Prelude.{◌≡◌, IfOk, IsSome, if◌then◌else◌};
-ghost use Rattle.bus_link.specs.Hits.{IsValidHits, befalls, hit_of, raised};
+ghost use Rattle.storage_model.specs.Faults.{IsValidHits};
+ghost use Rattle.bus_link.specs.Hits.{befalls, hit_of, raised};
 
 use crate::hits::{befalls, meet_hit};
 use circular_buffer::HeapCircularBuffer;
