@@ -6,7 +6,7 @@ use Rattle.cmd_words.specs.declared.command.Command.TheVariants.{Execute}
 use Rattle.ext_csd.specs.declared.csd.ExtCsd.{ExtCsd}
 use Rattle.ext_csd.specs.Values.{fresh}
 use Rattle.task_queue.specs.Places.{Queue}
-use Rattle.task_queue.specs.Queue.{depth, empty, slot}
+use Rattle.task_queue.specs.Queue.{depth, empty, place_of, slot}
 use Rattle.card_store.specs.Store.{HasSectors, Store, sectors_of}
 use Rattle.card_core.specs.declared.phase.DataPhase.{DataPhase}
 use Rattle.card_core.specs.declared.phase.Phase.{Phase}
@@ -30,13 +30,15 @@ pub record IsInside (store : Store) (phase : DataPhase) : Type 0 where
 
 -- the task that waits for its start sector has a place, which is empty
 abbrev pub HasPlace : Queue → Type 0
-HasPlace queue = IfSome queue.waiting (λ task. (task.task < depth queue) × (slot queue task.task ≡ None))
+HasPlace queue = IfSome queue.waiting (λ task. (task.task < depth queue) × (place_of queue task.task ≡ None))
 
--- What is so of every card: each queued task and the open data phase lie in the image that is open, and the task that waits for
--- its start sector has an empty place.
+-- What is so of every card: its queue has the depth and its cache the lines that it was made with, each queued task and the open
+-- data phase lie in the image that is open, and the task that waits for its start sector has an empty place.
 pub record IsCard (card : CardState) : Type 0 where
   pub tasks : (1 ≤ card.depth) × (card.depth ≤ 31)
   pub room : (1 ≤ card.lines) × (card.lines ≤ 1024)
+  pub places : depth card.queue ≡ card.depth
+  pub cache : card.store.cache.room ≡ card.lines
   pub queued : (task : ℕ) → IfSome (slot card.queue task) (λ queued. HasSectors card.store queued.start queued.task.blocks)
   pub waits : HasPlace card.queue
   pub phase : IfSome card.phase (IsInside card.store)

@@ -75,10 +75,10 @@ TakesIn block old old_array new new_array result =
     (IsUntouched tt old old_array new new_array result)
     (λ phase. Served (block_answer ERROR) (by_end (moved_on old phase) old) (with_put (next_put phase block)) old old_array new new_array result)
 
--- the store was read
+-- the store was read: of the array nothing but faults and fetches is different
 pub record HasRead (sector : ℕ) (value : Block) (old : CardState) (old_array : ArrayState) (new : CardState) (new_array : ArrayState) (result : Result (Unit {0}) BlockEnd) : Type 0 where
   pub block : OnOk result (Reads old.store old_array sector value)
-  pub told : new_array.told ≡ old_array.told
+  pub same : new_array ≡ record old_array { faults = new_array.faults; fetches = new_array.fetches }
 
 -- the cache has room for the block, or it is dropped
 abbrev pub FindsRoom : Block → CardState → Type 0

@@ -17,7 +17,7 @@ use Rattle.array_edge.specs.Array.{ArrayState}
 use Rattle.epoch_cache.specs.Cache.{next_epoch}
 use Rattle.task_queue.specs.declared.queue.Queued.{Queued}
 use Rattle.task_queue.specs.Places.{Queue}
-use Rattle.task_queue.specs.Queue.{addressed, discarded, params_answer, ready_word, take_answer, taken, without}
+use Rattle.task_queue.specs.Queue.{addressed, chosen, discarded, params_answer, ready_word, take_answer, taken}
 use Rattle.card_store.specs.Store.{Turns, kept, with_bar}
 use Rattle.card_core.specs.declared.ends.Dark.{Dark}
 use Rattle.card_core.specs.declared.phase.TheConstants.{DIRECT_TASK}
@@ -52,7 +52,7 @@ params_response card task =
 
 -- the queue without the task that waited
 abbrev pub forgotten : Queue → Task → Queue
-forgotten queue task = record queue { choice = without queue.choice task.task; waiting = None }
+forgotten queue task = record queue { waiting = None }
 
 -- CMD45: the task that waits is queued, or forgotten where it ends past the last sector
 abbrev pub address_response : CardState → ℕ → Response
@@ -67,7 +67,7 @@ address_response card start =
 -- CMD13 for the queue status word: the queued tasks of the choice are ready, and no others
 abbrev pub poll_response : CardState → ℕ → Response
 poll_response card choice =
-    Tell (ready_word (record card.queue { choice = choice })) (record card { queue = record card.queue { choice = choice } })
+    Tell (ready_word (chosen card.queue choice)) (record card { queue = chosen card.queue choice })
 
 -- the ready task of the number, if it is of the direction
 abbrev pub task_to_execute : CardState → Bool → ℕ → Option Queued
@@ -132,6 +132,11 @@ pub record IsBarred (after old : CardState) (old_array : ArrayState) (new : Card
   pub known : new.store.known ≡ old.store.known
   pub epoch : new.store.cache ≡ record old.store.cache { last = next_epoch old.store.cache.last }
   pub turns : Turns (with_bar old.store.cache.last) old.store old_array new.store new_array
+
+-- the response flushes the store
+abbrev pub IsFlush : Response → Type 0
+IsFlush (FlushCache well badly) = Unit {0}
+IsFlush _ = ⊥
 
 -- the card answered and did so
 abbrev pub Responds : Response → CardState → ArrayState → CardState → ArrayState → Result ℕ Dark → Type 0

@@ -1,5 +1,5 @@
 -- How the card's calls end, by how its store's do.
-use Rattle.std.specs.Prelude.{◌≡◌, ℕ, ◌==◌, ◌&&◌, ◌||◌, Bool, not, if◌then◌else◌, Result, Ok, Err, is_ok}
+use Rattle.std.specs.Prelude.{◌≡◌, ℕ, ◌==◌, ◌&&◌, ◌||◌, Bool, true, not, if◌then◌else◌, Result, Ok, Err, OnOk, is_ok}
 use Rattle.std.specs.Int.{bit_at}
 use Rattle.cmd_words.specs.declared.status.Status.{Status}
 use Rattle.cmd_words.specs.declared.status.TheConstants.Status.{ERROR}
@@ -51,6 +51,12 @@ pub record Served {T E : Type 0} (answer : End → Result T E) (after : End → 
   pub store : IsSameStore old.store new.store
   pub turns : Turns (by_end f same end) old.store old_array new.store new_array
   pub ends : StoreEnds old_array new_array end
+
+-- A call of the store that keeps ended, and was answered so. Where it ended well the array is settled.
+pub record IsKeptBy (array : ArrayState) (result : Result ℕ Dark) : Type 0 where
+  pub end : End
+  pub answers : result ≡ word_answer end
+  pub settled : OnOk end (array.settled ≡ true)
 
 -- bit 19, ERROR, or bit 21, DEVICE_ECC_FAILED: a fault of the flash
 abbrev pub tells_fault : ℕ → Bool

@@ -1,16 +1,17 @@
-ghost use Rattle.std.specs.Prelude.{◌≡◌, ◌≤◌, ◌<◌, ◌+◌, ◌↔◌, true, false, [], Some, None, Ok, IfOk, IfSome, OnOk, OnErr, IsErrOf, IsSome};
+ghost use Rattle.std.specs.Prelude.{◌≡◌, ◌≤◌, ◌<◌, ◌+◌, ◌↔◌, true, false, [], Some, None, Ok, IfOk, IfSome, OnOk, OnErr, IsErrOf, IsSome, is_ok};
 ghost use Rattle.storage_model.specs.Keep.{every_sector};
 ghost use Rattle.array_edge.specs.Array.{ArrayState};
+ghost use Rattle.intent_store.specs.Calls.{Opens};
 ghost use Rattle.intent_store.specs.Intent.{IsNoImage, ShowsImage, StartEnds, StoreEnds, shown_by};
 ghost use Rattle.intent_store.specs.declared.ends.StartEnd.TheVariants.{BadImage};
 ghost use Rattle.card_store.specs.declared.ends.StageEnd.TheVariants.{Empty};
-ghost use Rattle.card_store.specs.Staging.{StageEnds};
+ghost use Rattle.card_store.specs.Staging.{StageEnds, only_settled};
 ghost use Rattle.card_store.specs.Store.{HasSector, HasSectors, IsOpen, IsSameStore, Reads, Stands, Turns, kept, same};
 ghost use Rattle.task_queue.specs.Queue.{addressed};
 ghost use Rattle.card_core.specs.Card.{HasPlace, HasStagedOne, HoldsNothing, blocks_of, idle_card, moved_blocks, sectors, set_up};
 ghost use Rattle.card_core.specs.Moving.{Finishes, FindsRoom, GivesOut, TakesIn, finished, moved_on, phase_moving, write_to_keep};
-ghost use Rattle.card_core.specs.Response.{FlushCache, IsBarred, Responds, Tell, accepted, address_response, execute_response, if_queueing, is_poll, manage_response, params_response, poll_response, response_to, switch_response, with_direct};
-ghost use Rattle.card_core.specs.Serving.{block_end, word_end};
+ghost use Rattle.card_core.specs.Response.{FlushCache, IsBarred, IsFlush, Responds, Tell, accepted, address_response, execute_response, if_queueing, is_poll, manage_response, params_response, poll_response, response_to, switch_response, with_direct};
+ghost use Rattle.card_core.specs.Serving.{IsKeptBy, block_end, word_end};
 
 use crate::ends::{block_after, idle_word, word_after};
 use crate::{BlockEnd, DIRECT_TASK, Dark, DataPhase, Phase};
@@ -84,6 +85,8 @@ impl Card {
         ensures was_image { ShowsImage (A.state array.new) → ShowsImage (A.state array.old) }
         ensures bad { IsErrOf result BadImage → IsNoImage (A.state array.old) }
         ensures opened { OnOk result (ShowsImage (A.state array.old)) }
+        ensures calls { Opens (record (A.state array.old) { powered = true }) (A.state array.new) (is_ok result) }
+        ensures few { (A.state array.old).count < 2 → IsErrOf result BadImage × (A.state array.new ≡ record (A.state array.old) { powered = true }) }
         ensures ends { StartEnds (A.state array.old) (A.state array.new) result }
     {
         self.queue = TaskQueue::new(self.depth);
@@ -112,6 +115,7 @@ impl Card {
         requires open { IsOpen self.old.store (A.state array.old) }
         ensures open { IsOpen self.new.store (A.state array.new) }
         ensures response { Responds (response_to self.old command.now choice) self.old (A.state array.old) self.new (A.state array.new) result }
+        ensures settled { IsFlush (response_to self.old command.now choice) → IsKeptBy (A.state array.new) result }
         ensures ends { StoreEnds (A.state array.old) (A.state array.new) (word_end (is_poll command.now) result) }
     {
         match *command {
@@ -220,6 +224,7 @@ impl Card {
         requires open { IsOpen self.old.store (A.state array.old) }
         ensures open { IsOpen self.new.store (A.state array.new) }
         ensures response { Responds (switch_response self.old arg) self.old (A.state array.old) self.new (A.state array.new) result }
+        ensures settled { IsFlush (switch_response self.old arg) → IsKeptBy (A.state array.new) result }
     {
         let mut csd = self.csd;
         match csd.switch(arg) {
@@ -254,6 +259,7 @@ impl Card {
         requires open { IsOpen self.old.store (A.state array.old) }
         ensures open { IsOpen self.new.store (A.state array.new) }
         ensures flushed { Responds (FlushCache (with_direct self.old 1 true) (with_direct self.old 0 false)) self.old (A.state array.old) self.new (A.state array.new) result }
+        ensures settled { IsKeptBy (A.state array.new) result }
     {
         let end = self.store.flush(array);
         self.begin_direct(u16::from(end.is_ok()), end.is_ok());
@@ -265,6 +271,7 @@ impl Card {
         requires open { IsOpen self.old.store (A.state array.old) }
         ensures open { IsOpen self.new.store (A.state array.new) }
         ensures flushed { Responds (FlushCache (record self.old { csd = csd }) self.old) self.old (A.state array.old) self.new (A.state array.new) result }
+        ensures settled { IsKeptBy (A.state array.new) result }
     {
         let end = self.store.flush(array);
         if end.is_ok() {
@@ -362,6 +369,7 @@ impl Card {
         requires open { IsOpen self.old.store (A.state array.old) }
         ensures open { IsOpen self.new.store (A.state array.new) }
         ensures kept { Finishes self.old (A.state array.old) self.new (A.state array.new) result }
+        ensures settled { IsSome (write_to_keep self.old) → IsKeptBy (A.state array.new) result }
         ensures ends { StoreEnds (A.state array.old) (A.state array.new) (word_end false result) }
     {
         let Some(phase) = self.write_to_keep() else {
@@ -449,7 +457,7 @@ impl Card {
         ensures store { IsSameStore self.old.store self.new.store }
         ensures ok { OnOk result (Reads self.old.store (A.state array.old) sector block.new) }
         ensures turns { Turns same self.old.store (A.state array.old) self.new.store (A.state array.new) }
-        ensures told { (A.state array.new).told ≡ (A.state array.old).told }
+        ensures same { A.state array.new ≡ record (A.state array.old) { faults = (A.state array.new).faults; fetches = (A.state array.new).fetches } }
         ensures ends { StoreEnds (A.state array.old) (A.state array.new) result }
     {
         self.store.read(sector, block, array)
@@ -463,6 +471,8 @@ impl Card {
         ensures store { IsSameStore self.old.store self.new.store }
         ensures ok { OnOk result (Turns (kept every_sector) self.old.store (A.state array.old) self.new.store (A.state array.new)) }
         ensures empty { OnOk result (HoldsNothing self.new) }
+        ensures settled { OnOk result ((A.state array.new).settled ≡ true) }
+        ensures bare { HoldsNothing self.old → A.state array.new ≡ only_settled (A.state array.old) (A.state array.new) }
         ensures err { OnErr result (Turns same self.old.store (A.state array.old) self.new.store (A.state array.new)) }
         ensures ends { StoreEnds (A.state array.old) (A.state array.new) result }
     {
