@@ -1,7 +1,7 @@
 -- What each call over the bus makes of card, array and script. A lost command never comes to the card; where there is no
 -- response the card has acted; a bad block breaks off before it moves; a late end comes after the card closed the phase, and
 -- hides what the card said of its flash. A loss of power is seen in place of every fault of the bus.
-use Rattle.std.specs.Prelude.{◌≡◌, ℕ, ◌+◌, ◌==◌, Bool, true, false, if◌then◌else◌, Option, Some, None, Result, Ok, Err, MatchOption}
+use Rattle.std.specs.Prelude.{◌≡◌, ℕ, ◌+◌, ◌==◌, Bool, true, false, if◌then◌else◌, Option, Some, None, Result, Ok, Err, IsSome, MatchOption}
 use Rattle.std.specs.Bool.{MatchBool}
 use Rattle.storage_model.specs.declared.block.Block.{Block}
 use Rattle.storage_model.specs.declared.faults.BusKind.{BusKind}
@@ -18,8 +18,9 @@ use Rattle.card_core.specs.declared.ends.BlockEnd.TheVariants as block_end
 use Rattle.card_core.specs.declared.ends.Dark.{Dark}
 use Rattle.card_core.specs.declared.phase.DataPhase.{DataPhase}
 use Rattle.card_core.specs.Card.{blocks_of}
-use Rattle.card_core.specs.Moving.{Finishes, GivesOut, TakesIn}
+use Rattle.card_core.specs.Moving.{FindsRoom, Finishes, GivesOut, TakesIn, write_to_keep}
 use Rattle.card_core.specs.Response.{Responds, response_to}
+use Rattle.card_core.specs.Serving.{IsKeptBy}
 use Rattle.card_link.specs.Behind.{Behind}
 
 -- the fault that befalls a command that is sent now
@@ -91,10 +92,11 @@ abbrev pub after_block : Option BusKind → Result (Unit {0}) BlockEnd → Scrip
 after_block (Some Late) (Err (block_end.Status word)) script = struck script
 after_block _ _ script = script
 
--- the card took the block, or broke the phase off
+-- the card took the block, or broke the phase off; a block that finds room in the cache is taken without a call of the array
 pub record IsGiven (block : Block) (old new : Behind) (result : Result (Unit {0}) LinkEnd) : Type 0 where
   pub answer : Result (Unit {0}) BlockEnd
   pub takes : TakesIn block old.card old.array new.card new.array answer
+  pub deferred : FindsRoom block old.card → (answer ≡ Ok tt) × (new.array ≡ old.array)
   pub script : new.script ≡ after_block old.script.hit answer old.script
   pub seen : result ≡ block_seen old.script.hit answer
 
@@ -131,6 +133,7 @@ after_close _ _ script = script
 pub record Closes (old new : Behind) (result : Result ℕ LinkEnd) : Type 0 where
   pub answer : Result ℕ Dark
   pub finishes : Finishes old.card old.array new.card new.array answer
+  pub settled : IsSome (write_to_keep old.card) → IsKeptBy new.array answer
   pub script : new.script ≡ after_close old.script.hit answer old.script
   pub seen : result ≡ close_seen old.script.hit answer
 
