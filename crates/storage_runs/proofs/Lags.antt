@@ -19,6 +19,7 @@ use Rattle.storage_runs.specs.Runs.{Unseen, next_letter}
 
 -- an idle engine told of counted completions
 pub record IsTicked (q s : State) : Type 0 where
+  pub some : to_do q ≡ true
   pub work : has_work q ≡ false
   pub late : is_due q ≡ false
   pub idle : is_idle q ≡ true
@@ -27,6 +28,7 @@ pub record IsTicked (q s : State) : Type 0 where
 
 -- a phase is under way
 pub record IsBusied (q s : State) : Type 0 where
+  pub some : to_do q ≡ true
   pub work : has_work q ≡ false
   pub late : is_due q ≡ false
   pub tag : ℕ
@@ -149,24 +151,25 @@ recovery_passed s (Execute tag) = recovery_either _ s _ refl
 recovery_passed s command = recovery_either _ s _ refl
 
 -- what an event of the engine that prints nothing leads to
-tick_cases : (r u : State) (told : Bool) → is_due r ≡ false → has_work r ≡ false → (is_idle r && nat_lt 0 r.count) ≡ told → u ≡ cond told (record r { notice = true; count = 0 }) r
+tick_cases : (r u : State) (told : Bool) → to_do r ≡ true → is_due r ≡ false → has_work r ≡ false → (is_idle r && nat_lt 0 r.count) ≡ told → u ≡ cond told (record r { notice = true; count = 0 }) r
     → (u ≡ r) ⊎ (IsTicked r u ⊎ IsBusied r u)
-tick_cases r u false late work at state = inl state
-tick_cases r u true late work at state =
+tick_cases r u false some late work at state = inl state
+tick_cases r u true some late work at state =
     let parts = and_parts _ _ at in
-    inr (inl (record { work = work; late = late; idle = parts.0; counted = parts.1; state = state }))
+    inr (inl (record { some = some; work = work; late = late; idle = parts.0; counted = parts.1; state = state }))
 
 pub not_true : (b : Bool) → not b ≡ true → b ≡ false
 not_true true e = absurd (cc)
 not_true false e = refl
 
-pass_cases : (r u : State) (command : DueCommand) → is_due r ≡ false → has_work r ≡ false → due r ≡ command → may_pass r command ≡ true → u ≡ passed r command → (u ≡ r) ⊎ (IsTicked r u ⊎ IsBusied r u)
-pass_cases r u Idle late work at may state = tick_cases r u (is_idle r && nat_lt 0 r.count) late work refl state
-pass_cases r u (Address x) late work at may state = absurd (cc)
-pass_cases r u (Params x) late work at may state = absurd (cc)
-pass_cases r u (Direct x) late work at may state = absurd (cc)
-pass_cases r u Poll late work at may state = absurd (cc)
-pass_cases r u (Execute tag) late work at may state = inr (inr (record {
+pass_cases : (r u : State) (command : DueCommand) → to_do r ≡ true → is_due r ≡ false → has_work r ≡ false → due r ≡ command → may_pass r command ≡ true → u ≡ passed r command → (u ≡ r) ⊎ (IsTicked r u ⊎ IsBusied r u)
+pass_cases r u Idle some late work at may state = tick_cases r u (is_idle r && nat_lt 0 r.count) some late work refl state
+pass_cases r u (Address x) some late work at may state = absurd (cc)
+pass_cases r u (Params x) some late work at may state = absurd (cc)
+pass_cases r u (Direct x) some late work at may state = absurd (cc)
+pass_cases r u Poll some late work at may state = absurd (cc)
+pass_cases r u (Execute tag) some late work at may state = inr (inr (record {
+  some = some;
   work = work;
   late = late;
   tag = tag;
@@ -178,7 +181,7 @@ pass_cases r u (Execute tag) late work at may state = inr (inr (record {
 
 engine_cases : (r u : State) → Hush r u → EngineHush r u → (u ≡ r) ⊎ (IsTicked r u ⊎ IsBusied r u)
 unfolding engine_step engine_may_pass
-engine_cases r u step engine = pass_cases r u (due r) step.due engine.work refl engine.pass engine.state
+engine_cases r u step engine = pass_cases r u (due r) step.some step.due engine.work refl engine.pass engine.state
 
 -- from a state without a recovery
 abbrev pub Onward : State → State → Type 0
@@ -195,6 +198,7 @@ reached r s calm (inr x) = inr (rw (calm_steps r calm) x)
 tick_on : (r u s : State) → IsTicked r u → Onward u s → Onward r s
 tick_on r u s tick (inl e) = inr (inl (rw e tick))
 tick_on r u s tick (inr (inl again)) = inr (inl (record {
+  some = tick.some;
   work = tick.work;
   late = tick.late;
   idle = tick.idle;
@@ -207,6 +211,7 @@ busy_on : (r u s : State) → IsBusied r u → Onward u s → Onward r s
 busy_on r u s phase (inl e) = inr (inr (rw e phase))
 busy_on r u s phase (inr (inl tick)) = absurd (false≢true (not_idle u phase.tag tick.idle (ap due phase.state ∙ due_busy r phase.spent phase.tag phase.execute)))
 busy_on r u s phase (inr (inr again)) = inr (inr (record {
+  some = phase.some;
   work = phase.work;
   late = phase.late;
   tag = phase.tag;

@@ -15,5 +15,6 @@ pub mod Owns
 pub mod Powers
 pub mod Untold
 pub mod Fronts
+pub mod Finals
 pub mod Texts
 pub mod Taken

@@ -1,15 +1,18 @@
 -- The acceptance of traces takes every run, event by event. Between the lines it stands where the run does, but for events that print nothing.
-use Rattle.std.specs.Prelude.{◌≡◌, ◌⊎◌, ◌≤◌, ℕ, ◌||◌, true, not, None, List, [], ◌∷◌, ◌++◌}
+use Rattle.std.specs.Prelude.{false, ◌≡◌, ◌⊎◌, ◌≤◌, ℕ, ◌||◌, true, not, None, List, [], ◌∷◌, ◌++◌}
 use Rattle.storage_machine.specs.Cuts.{is_due}
 use Rattle.storage_machine.specs.Host.{to_do}
 use Rattle.storage_machine.specs.declared.state.Event.TheVariants.{Untold}
 use Rattle.storage_machine.specs.declared.state.Owed.TheVariants.{Nothing, End as Ended}
 use Rattle.storage_machine.specs.declared.state.State.{State}
 use Rattle.storage_model.specs.declared.trace.Item.{Item}
+use Rattle.storage_model.specs.declared.trace.End.{End}
+use Rattle.storage_model.specs.declared.trace.Item.TheVariants.{Off}
+use Rattle.trace_effects.specs.Effects.{effect}
 use Rattle.storage_order.specs.Accept.{accept_from}
 use Rattle.storage_order.specs.Events.{Starts, end_rule, ended, is_untold}
 use Rattle.storage_runs.specs.Runs.{Comes, Run, StaysSo, Unseen, Yields, begun_next, chosen, is_shown, shown, with_letter}
-use Rattle.trace_rules.specs.Lines.{is_free}
+use Rattle.trace_rules.specs.Lines.{is_free, line_rule}
 use Rattle.trace_rules.specs.Steps.{is_nothing}
 
 -- the state between events, where the event that was told is over
@@ -71,3 +74,8 @@ pub record IsOpened (m : State) (lines : List Item) : Type 0 where
 
 abbrev pub IsFrontTaken : State → State → State → List Item → Type 0
 IsFrontTaken m s last lines = StandsAt m s → (is_shown s (chosen s) ≡ true) ⊎ (m.event ≡ Untold) → Opens s lines last → IsOpened m lines
+
+-- the line that ends a run, where nothing is to do
+abbrev pub IsEndTaken : State → State → End → Type 0
+IsEndTaken m s end = StandsAt m s → to_do s ≡ false → line_rule s (Off end) ≡ None
+    → (more : List Item) → accept_from (Off end ∷ more) m ≡ accept_from more (effect s (Off end))
