@@ -1,4 +1,4 @@
-//! `text_bench`: reads a request text, a fault text or a trace, and writes what it found: how many requests or fault lines,
+//! `text_bench`: reads a request text, a fault text or a trace, and writes what it found: how many requests or faults,
 //! or the trace again, line by line. bench/texts counts what it does.
 #![tactic(auto)]
 
@@ -65,10 +65,17 @@ fn count_requests(alloc: Global, bytes: &[u8]) -> Option<usize> {
     Some(plan.jobs.len())
 }
 
+// The words of polls, the faults of the bus and of the array, and the cuts.
 fn count_faults(alloc: Global, bytes: &[u8]) -> Option<usize> {
     let faults = read_faults(alloc, bytes).ok()?;
-    let lines = faults.ready.as_slice().len() + faults.bus.as_slice().len();
-    Some(lines.saturating_add(faults.array.as_slice().len()))
+    Some(
+        faults
+            .ready
+            .len()
+            .saturating_add(faults.bus.len())
+            .saturating_add(faults.array.len())
+            .saturating_add(faults.cuts.len()),
+    )
 }
 
 // Writes each line of a trace again, and answers the status.
