@@ -11,3 +11,7 @@ returns-in-Err g c = inl (record {
   kept = λ is. is;
   was_image = λ is. is;
 })
+
+pub returns-in-Ok : goal.returns-in-Ok
+returns-in-Ok g c =
+    c.begin.ensures (g.S.Source.left c.args.first.now) (g.S.Source.faults c.args.first.now) (g.S.Source.faults c.take_machine.new.first) c.in-Ok.ensures.ops
