@@ -23,7 +23,7 @@ has_count (Some base) (Some other) store array same stands =
     subst (λ b. length b ≡ unwrap_or (sectors_of store) 0) is (some_value (sectors_of store) stands.sectors)
 
 pub begun : (off begin : Machine) (old new : ArrayState) → off ≡ switched_off off.card.store → begin ≡ switched_on off begin
-    → IfSome (shown_by new) (λ base. Stands (record { base = base; pend = [] }) begin.card.store new) → shown_by new ≡ shown_by old → (ShowsImage old → ShowsImage new) → (ShowsImage new → ShowsImage old)
+    → IfSome (shown_by new) (λ base. Stands (record { base = base; pend = [] }) begin.card.store new) → shown_by new ≡ shown_by old → ShowsImage new → (ShowsImage new → ShowsImage old)
     → Later old.faults new.faults → Later old.cuts new.cuts → IsBegun old (moment begin new)
 begun off begin old new is on contents shown kept was_image faults cuts = record {
   store = off.card.store;
@@ -31,8 +31,8 @@ begun off begin old new is on contents shown kept was_image faults cuts = record
   contents = contents;
   sectors = has_count (shown_by new) (shown_by old) begin.card.store new shown contents;
   shown = shown;
+  image = was_image kept;
   kept = kept;
-  was_image = was_image;
   faults = faults;
   cuts = cuts;
 }

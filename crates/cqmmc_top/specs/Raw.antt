@@ -30,15 +30,15 @@ pub data IsScriptRefused (script : Option (List ℕ)) (first first' : Count) (ol
   by_opening : {refusal : Refusal} {ops : List RawOp} → IsScriptOf script ops → OpeningRefused old new refusal → IsScriptRefused script first first' old new refusal
 
 -- A machine that was switched on over an array: registers at reset, and a card set up, of as many sectors as the image, whose
--- store stands for what the image shows, which is what it showed before. It is an image just where it was one before.
+-- store stands for what the image shows, which is what it showed before. The pages were an image, and are one.
 pub record IsBegun (old : ArrayState) (begin : Moment) : Type 0 where
   pub store : Store
   pub machine : begin.machine ≡ switched_on (switched_off store) begin.machine
   pub contents : IfSome (shown_by begin.array) (λ base. StoreStands (record { base = base; pend = [] }) begin.machine.card.store begin.array)
   pub sectors : HasSectors old (sectors begin.machine.card)
   pub shown : shown_by begin.array ≡ shown_by old
-  pub kept : ShowsImage old → ShowsImage begin.array
-  pub was_image : ShowsImage begin.array → ShowsImage old
+  pub image : ShowsImage old
+  pub kept : ShowsImage begin.array
   pub faults : Later old.faults begin.array.faults
   pub cuts : Later old.cuts begin.array.cuts
 
@@ -91,8 +91,8 @@ module _ {K : Type 0} (took : K → List ℕ → K → Type 0) (faults_of : K �
     pub kept : ShowsImage old → ShowsImage new
     pub was_image : ShowsImage new → ShowsImage old
 
-  -- the sink failed within the first line, which tells as many sectors as the image has; the image shows what it showed, and
-  -- is one just where it was one
+  -- the sink failed within the first line, which tells as many sectors as the image has; the pages are an image, and it shows
+  -- what it showed
   pub record IsUntold (script : Option (List ℕ)) (old new : ArrayState) (out : K) (status : ℕ) (out' : K) : Type 0 where
     pub ops : List RawOp
     pub means : IsScriptOf script ops
@@ -102,10 +102,11 @@ module _ {K : Type 0} (took : K → List ℕ → K → Type 0) (faults_of : K �
     pub part : TookPart took out (card_text sectors) out'
     pub rose : Rose (faults_of out) (faults_of out')
     pub shown : shown_by new ≡ shown_by old
-    pub kept : ShowsImage old → ShowsImage new
-    pub was_image : ShowsImage new → ShowsImage old
+    pub image : ShowsImage old
+    pub kept : ShowsImage new
 
-  -- The operations were carried out one after the other, from a machine switched on. The status says how that ended. Where the array tells
+  -- The operations were carried out one after the other, from a machine switched on over an image, and the pages are an image at the end,
+  -- however it came. The status says how that ended. Where the array tells
   -- its pages, the same is told task by task, over the contents that it showed. The lines that tell of a fault are together no more than the
   -- faults of the array.
   pub record IsPlayed (script : Option (List ℕ)) (old new : ArrayState) (out : K) (status : ℕ) (out' : K) : Type 0 where
@@ -118,6 +119,7 @@ module _ {K : Type 0} (took : K → List ℕ → K → Type 0) (faults_of : K �
     pub end : Machine
     pub result : Result (Unit {0}) Halt
     pub plays : CarriesOut took ops begin middle result (moment end new) out'
+    pub kept : ShowsImage new
     pub told : IfSome (shown_by old) (λ base. IsTold took base ops middle result (moment end new) out')
     pub is : status ≡ run_status result
     pub cause : HasCause (faults_of out) (faults_of out') old new result

@@ -1,6 +1,7 @@
 // A raw script, from its text to its last line.
 ghost use Rattle.std.specs.Prelude.{◌≡◌, All, IfErr, IfOk, List, Option, ℕ};
 ghost use Rattle.storage_model.specs.Count.{Count};
+ghost use Rattle.intent_store.specs.Intent.{ShowsImage};
 ghost use Rattle.raw_machine.specs.Machine.{Stands, moment, switched_off};
 ghost use Rattle.raw_text.specs.Raw.{IsOp};
 ghost use Rattle.cqmmc_top.specs.Print.{HasCause, run_status};
@@ -78,6 +79,7 @@ fn play<A: Array, K: Sink>(
     requires ops { All IsOp ops.now }
     requires stands { Stands raw.old (A.state array.old) }
     ensures plays { Plays K.took ops.now (moment raw.old (A.state array.old)) out.old result (moment raw.new (A.state array.new)) out.new }
+    ensures image { ShowsImage (A.state array.new) }
     ensures cause { HasCause (K.faults out.old) (K.faults out.new) (A.state array.old) (A.state array.new) result }
 {
     for op in ops.as_slice() {

@@ -1,7 +1,12 @@
 -- What accesses leave: the machine stands, and no count rose.
-use Rattle.std.proofs.Common.{◌≡◌, ℕ, List, Some, None, refl, sym, ◌∙◌, subst, arith, inl, inr}
+use Rattle.std.proofs.Common.{◌≡◌, ℕ, List, Option, Some, None, IfSome, refl, sym, ◌∙◌, subst, arith, inl, inr}
 use Rattle.std.proofs.lemmas.Bool.{false≢true}
 use Rattle.array_edge.specs.Array.{ArrayState}
+use Rattle.std.specs.Prelude.{MatchOption}
+use Rattle.card_store.specs.Store.{IsOpen, Store}
+use Rattle.image_form.specs.Image.{IsImage}
+use Rattle.intent_store.specs.Intent.{IntentStands, IsKnown, Known, ShowsImage}
+use Rattle.storage_model.specs.declared.block.Block.{Block}
 use Rattle.cq_engine.proofs.Lying.{lie_same}
 use Rattle.host_mem.specs.Memory.{Memory}
 use Rattle.host_mem.proofs.MemoryLaws.{with_bytes-base, with_bytes-length}
@@ -13,6 +18,22 @@ use Rattle.raw_machine.specs.Machine.{Machine, Stands}
 use Rattle.raw_face.specs.Operation.{with_memory}
 use Rattle.raw_face.specs.Output.{HasCauses, IsQuiet, Output}
 use Rattle.raw_face.proofs.Runs.{later_same}
+
+all_images : (known : Known) (told : Option (List Block)) → IfSome told (IsKnown known) → IfSome told (λ pages. IsImage pages)
+all_images known None is = tt
+all_images known (Some pages) is = is.image
+
+-- the pages of an image on which an intent store stands are an image
+pub stands_image : (known : Known) (array : ArrayState) → IntentStands known array → ShowsImage array
+stands_image known array stands = all_images known array.told stands.told
+
+-- and so are those of a card's image that is open
+pub open_image : (store : Store) (array : ArrayState) → IsOpen store array → ShowsImage array
+open_image store array stands = known_image store.known stands
+  where
+    known_image : (known : Option Known) → MatchOption known ⊥ (λ k. IntentStands k array) → ShowsImage array
+    known_image None stands = absurd stands
+    known_image (Some known) stands = stands_image known array stands
 
 -- nothing rose
 pub quiet_causes : (array : ArrayState) (output : Output) → IsQuiet output → HasCauses array array output

@@ -1,5 +1,5 @@
 -- What is printed, and how a script ends.
-use Rattle.std.specs.Prelude.{◌≡◌, ◌≤◌, ℕ, count_by, Bool, true, false, List, [], ◌∷◌, ◌++◌, flat_map, Option, Some, None, Result, Ok, Err, IsErrOf}
+use Rattle.std.specs.Prelude.{◌≡◌, ◌⊎◌, ◌≤◌, ◌<◌, ℕ, count_by, Bool, true, false, List, [], ◌∷◌, ◌++◌, flat_map, length, take, Option, Some, None, Result, Ok, Err, IsErrOf}
 use Rattle.std.specs.List.{list_any}
 use Rattle.array_edge.specs.Array.{ArrayState}
 use Rattle.bus_link.specs.Link.{tells_flash}
@@ -58,9 +58,33 @@ Prints took old text (Ok done) new = took old text new
 Prints took old text (Err SinkFailed) new = TookPart took old text new
 Prints took old text (Err _) new = ⊥
 
--- the output was taken, and the script goes on or ends as it says; or the sink failed within it
+-- the last line of an output is that of the end
+pub record IsEndLine (output : Output) (whole line : List ℕ) : Type 0 where
+  pub end : End
+  pub is : output.end ≡ Some end
+  pub before : whole ≡ lines_text output.lines
+  pub text : line ≡ item_text (Off end)
+
+-- it is the last of its lines, which is printed before the end
+pub record IsLastLine (output : Output) (whole line : List ℕ) : Type 0 where
+  pub others : List RawLine
+  pub last : RawLine
+  pub is : output.lines ≡ others ++ last ∷ []
+  pub before : whole ≡ lines_text others
+  pub text : line ≡ raw_line_text last
+
+-- the sink took all lines before the last one, and failed within that
+pub record BreaksOff {K : Type 0} (took : K → List ℕ → K → Type 0) (old : K) (output : Output) (new : K) : Type 0 where
+  pub whole : List ℕ
+  pub line : List ℕ
+  pub last : IsEndLine output whole line ⊎ IsLastLine output whole line
+  pub count : ℕ
+  pub part : count < length line
+  pub taken : took old (whole ++ take count line) new
+
+-- the output was taken, and the script goes on or ends as it says; or the sink failed within its last line
 abbrev pub Shows : {K : Type 0} → (K → List ℕ → K → Type 0) → K → Output → Result (Unit {0}) Halt → K → Type 0
-Shows took old output (Err SinkFailed) new = TookPart took old (output_text output) new
+Shows took old output (Err SinkFailed) new = BreaksOff took old output new
 Shows took old output result new = took old (output_text output) new × (result ≡ halt_of output.end)
 
 -- whether a line tells of a fault of the flash

@@ -6,6 +6,7 @@ ghost use Rattle.cq_schedule.specs.Order.{first_at};
 ghost use Rattle.cq_engine.specs.Ends.{EventEnds};
 ghost use Rattle.cq_engine.specs.Outcome.{stop_of};
 ghost use Rattle.card_link.specs.Behind.{link_state};
+ghost use Rattle.intent_store.specs.Intent.{ShowsImage};
 ghost use Rattle.raw_machine.specs.Machine.{Stands, behind_of, moment};
 ghost use Rattle.raw_face.specs.Operation.{Does};
 ghost use Rattle.raw_face.specs.Output.{HasCauses, IsSinkCause};
@@ -32,6 +33,7 @@ pub fn go<A: Array, K: Sink>(raw: &mut Raw, array: &mut A, out: &mut K) -> Resul
     requires stands { Stands raw.old (A.state array.old) }
     ensures does { Does K.took Go (moment raw.old (A.state array.old)) out.old result (moment raw.new (A.state array.new)) out.new }
     ensures stands { OnOk result (Stands raw.new (A.state array.new)) }
+    ensures image { ShowsImage (A.state array.new) }
     ensures sink { IsSinkCause (K.faults out.old) (K.faults out.new) result }
 {
     loop {

@@ -126,6 +126,7 @@ impl Raw {
     /// # Errors
     ///
     /// `PowerGone` where the power was cut, and `SinkFailed` where the sink failed.
+    #[tactic(auto, using(crate::proofs::Standing::open_image))]
     pub fn op<A: Array, K: Sink>(
         &mut self,
         op: &RawOp,
@@ -136,6 +137,7 @@ impl Raw {
         requires stands { Stands self.old (A.state array.old) }
         ensures does { Does K.took op.now (moment self.old (A.state array.old)) out.old result (moment self.new (A.state array.new)) out.new }
         ensures stands { OnOk result (Stands self.new (A.state array.new)) }
+        ensures image { ShowsImage (A.state array.new) }
         ensures sink { IsSinkCause (K.faults out.old) (K.faults out.new) result }
     {
         match op {
@@ -198,6 +200,7 @@ impl Raw {
     }
 
     // Shows a sector of the card.
+    #[tactic(auto, using(crate::proofs::Standing::open_image))]
     fn show<A: Array, K: Sink>(
         &mut self,
         sector: u32,
@@ -207,16 +210,19 @@ impl Raw {
         requires stands { Stands self.old (A.state array.old) }
         ensures does { Does K.took (Show sector) (moment self.old (A.state array.old)) out.old result (moment self.new (A.state array.new)) out.new }
         ensures stands { OnOk result (Stands self.new (A.state array.new)) }
+        ensures image { ShowsImage (A.state array.new) }
         ensures sink { IsSinkCause (K.faults out.old) (K.faults out.new) result }
     {
         print_reply(&show(&mut self.card, sector, array), out)
     }
 
     // Discards the queue of the card.
+    #[tactic(auto, using(crate::proofs::Standing::open_image))]
     fn discard<A: Array, K: Sink>(&mut self, array: &mut A, out: &mut K) -> Result<(), Halt>
         requires stands { Stands self.old (A.state array.old) }
         ensures does { Does K.took Discard (moment self.old (A.state array.old)) out.old result (moment self.new (A.state array.new)) out.new }
         ensures stands { OnOk result (Stands self.new (A.state array.new)) }
+        ensures image { ShowsImage (A.state array.new) }
         ensures sink { IsSinkCause (K.faults out.old) (K.faults out.new) result }
     {
         print_reply(&discard(&mut self.card, array), out)
@@ -228,20 +234,24 @@ impl Raw {
     /// # Errors
     ///
     /// `OpenFault` where the array failed, `PowerGone` where the power was cut, and `SinkFailed` where the sink failed.
+    #[tactic(auto, using(crate::proofs::Standing::open_image))]
     pub fn finish<A: Array, K: Sink>(&mut self, array: &mut A, out: &mut K) -> Result<(), Halt>
         requires stands { Stands self.old (A.state array.old) }
         ensures finishes { Finishes K.took (moment self.old (A.state array.old)) out.old result (moment self.new (A.state array.new)) out.new }
         ensures stands { OnOk result (Stands self.new (A.state array.new)) }
+        ensures image { ShowsImage (A.state array.new) }
         ensures sink { IsSinkCause (K.faults out.old) (K.faults out.new) result }
     {
         print_reply(&flush(&mut self.card, array), out)
     }
 
     // One event of the engine.
+    #[tactic(auto, using(crate::proofs::Standing::open_image))]
     pub(crate) fn event<A: Array>(&mut self, array: &mut A) -> Did
         requires stands { Stands self.old (A.state array.old) }
         ensures happens { Happens (moment self.old (A.state array.old)) result (moment self.new (A.state array.new)) }
         ensures stands { end_after result ≡ None → Stands self.new (A.state array.new) }
+        ensures image { ShowsImage (A.state array.new) }
         ensures ends { EventEnds (link_state (behind self.old.card (A.state array.old) self.old.script)) (link_state (behind self.new.card (A.state array.new) self.new.script)) (stop_of result) }
     {
         event_of_card(

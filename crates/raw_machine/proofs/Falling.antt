@@ -14,7 +14,7 @@ use Rattle.cmd_words.specs.declared.command.Command.{Command}
 use Rattle.cmd_words.specs.declared.command.Command.TheVariants.{Address as StartSector, Status as StatusOf}
 use Rattle.cmd_words.specs.Command.{index_of}
 use Rattle.cq_desc.specs.declared.direct.DirectDesc.{DirectDesc}
-use Rattle.cq_desc.specs.declared.layout.TheConstants.{ACT, ACT_TASK, BLOCK_COUNT, VALID}
+use Rattle.cq_desc.specs.Fields.{ACT, ACT_TASK, BLOCK_COUNT, VALID, field}
 use Rattle.cq_desc.specs.declared.task.TaskDesc.{TaskDesc}
 use Rattle.cq_desc.specs.declared.fault.DescFault.TheVariants.{BadAct, NotValid}
 use Rattle.cq_desc.specs.Task.{task_of, task_read}
@@ -46,7 +46,6 @@ use Rattle.cq_engine.specs.declared.did.Did.TheVariants.{Finished, Sent as SentC
 use Rattle.cq_engine.specs.Words.{command_error, direct_of, execute_of, has_error, is_masked, params_of}
 use Rattle.cq_engine.specs.Outcome.{Holding, Host, Outcome, heard, judged, responded, stop, stopped_with, with_regs, word_in}
 use Rattle.cq_engine.specs.After.{addressed, after_address, after_block, after_close, after_command, after_execute, after_params, direct_done, direct_ended, direct_heard, executed, finished, led_on, named, phase_ended, polled}
-use Rattle.cq_engine.specs.declared.words.TheConstants.{QUEUE_RCA}
 use Rattle.cq_engine.specs.Event.{Does, Event, Gives, Serves, Takes}
 use Rattle.cq_engine.proofs.Places.{length-remembered, set-other, set-same}
 use Rattle.cq_engine.proofs.SlotLaws.{advanced-other, completes, without-other, without-same}
@@ -368,7 +367,7 @@ does_down made old new host memory memory' outcome (Execute slot) long is i d be
 does_down made old new host memory memory' outcome Poll long is i d below =
     let P : Outcome → Type 0 = λ o. IsBelow o.did o.host.regs in
     along host.held host.regs.ring outcome _ d.0.outcome
-    (poll_down host (number_in host.regs.send_status_2 QUEUE_RCA) (word_in d.0.answer None) (none_ready host.held host.regs memory is) (subst P d.0.outcome below))
+    (poll_down host (number_in host.regs.send_status_2 (field 0 16)) (word_in d.0.answer None) (none_ready host.held host.regs memory is) (subst P d.0.outcome below))
 does_down made old new host memory memory' outcome (NextBlock slot k) long is i d below =
     let e = some_task (held_at host.held slot) _ d in
     let more : moved_in (held_at host.held slot) < blocks_in (held_at host.held slot) =

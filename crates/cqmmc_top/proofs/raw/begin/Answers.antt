@@ -3,6 +3,7 @@ use Rattle.card_core.specs.Card.{sectors}
 use Rattle.epoch_cache.specs.Cache.{Cache}
 use Rattle.cqmmc_top.specs.Refusal.{Says}
 use Rattle.cqmmc_top.specs.declared.refusal.Refusal.TheVariants.{BadImage, ArrayFault, NoPower}
+use Rattle.raw_face.proofs.Standing.{open_image}
 use Rattle.cqmmc_top.proofs.Beginning.{begun, has_count}
 use Rattle.cqmmc_top.proofs.ScriptTold.{script_told}
 use Rattle.cqmmc_top.proofs.Playing.{cause_then, booted}
@@ -15,12 +16,13 @@ returns-in-Ok g c = λ text before after means. inr (inr (record {
   ops = c.args.script.now.ops;
   means = means;
   begin = _;
-  begun = begun c.args.script.now.raw c.boot.new.self _ _ c.requires.off (c.in-Ok.ensures.on (inl refl)) (c.in-Ok.ensures.contents (inl refl)) c.in-Ok.ensures.shown c.in-Ok.ensures.image c.in-Ok.ensures.was_image c.in-Ok.ensures.ends.faults c.in-Ok.ensures.ends.cuts;
+  begun = begun c.args.script.now.raw c.boot.new.self _ _ c.requires.off (c.in-Ok.ensures.on (inl refl)) (c.in-Ok.ensures.contents (inl refl)) c.in-Ok.ensures.shown (open_image c.boot.new.self.card.store (g.A.Array.state c.boot.new.array) (c.in-Ok.ensures.stands (inl refl)).is_open) c.in-Ok.ensures.was_image c.in-Ok.ensures.ends.faults c.in-Ok.ensures.ends.cuts;
   middle = c.boot.new.out;
   card = c.in-Ok.ensures.printed;
   end = c.play.new.raw;
   result = c.play.result;
   plays = record { plays = c.play.ensures.plays; faults = plays_rose g.K.Sink.took c.play.ensures.plays };
+  kept = c.play.ensures.image;
   told = script_told g.K.Sink.took c.args.script.now.raw c.boot.new.self (g.A.Array.state c.args.array.now) (g.A.Array.state c.boot.new.array) c.args.script.now.ops _ _ _ _ c.requires.off (c.in-Ok.ensures.on (inl refl)) (c.in-Ok.ensures.contents (inl refl))
       (ap (λ (cache : Cache). cache.last) (c.in-Ok.ensures.empty (inl refl))) c.in-Ok.ensures.shown c.play.ensures.plays;
   is = c.status_of.ensures;
@@ -37,8 +39,8 @@ returns-in-Err-SinkFailed g c = λ text before after means. inr (inl (record {
   part = rw c.in-Err-SinkFailed.field-0-is at c.in-Err-SinkFailed.ensures.printed;
   rose = c.in-Err-SinkFailed.ensures.sink.failed (ap Err c.in-Err-SinkFailed.field-0-is);
   shown = c.in-Err-SinkFailed.ensures.shown;
-  kept = c.in-Err-SinkFailed.ensures.image;
-  was_image = c.in-Err-SinkFailed.ensures.was_image;
+  image = c.in-Err-SinkFailed.ensures.was_image (open_image c.boot.new.self.card.store (g.A.Array.state c.boot.new.array) (c.in-Err-SinkFailed.ensures.stands (inr (ap Err c.in-Err-SinkFailed.field-0-is))).is_open);
+  kept = open_image c.boot.new.self.card.store (g.A.Array.state c.boot.new.array) (c.in-Err-SinkFailed.ensures.stands (inr (ap Err c.in-Err-SinkFailed.field-0-is))).is_open;
 }))
 
 pub returns-in-Err-BadImage : goal.returns-in-Err-BadImage
