@@ -1,0 +1,3 @@
+pub mod Answers
+pub mod Shows
+pub mod Verdicts
