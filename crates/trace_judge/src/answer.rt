@@ -9,7 +9,7 @@ use io_edge::{Failed, Sink, put_all};
 use itoa::Buffer;
 
 /// What the program says. The lines of texts are counted from 1.
-#[derive(Clone, Copy, Debug, PartialEq, Eq)]
+#[derive(Clone, Copy)]
 pub enum Answer {
     Judged(Verdict),
     /// The words are not four.

@@ -13,7 +13,7 @@ use storage_order::{MState, Refuse, accept_item};
 use trace_text::read_items;
 
 /// What the acceptance says of lines.
-#[derive(Clone, Copy, Debug, PartialEq, Eq)]
+#[derive(Clone, Copy)]
 pub enum Verdict {
     /// All are accepted, and the last is an `off` line.
     Accepted,
