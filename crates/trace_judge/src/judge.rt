@@ -23,30 +23,28 @@ pub enum Verdict {
     Rejected { line: usize, rule: u8 },
 }
 
-/// The texts of a run.
-#[derive(Clone, Copy)]
-pub struct Texts<'a> {
-    pub requests: &'a [u8],
-    pub faults: &'a [u8],
-    pub trace: &'a [u8],
-}
-
 /// What there is to say of the texts of a run on these contents.
-pub fn judge_texts(alloc: Global, base: BlockList, texts: Texts) -> Answer
+pub fn judge_texts(
+    alloc: Global,
+    base: BlockList,
+    requests: &[u8],
+    faults: &[u8],
+    trace: &[u8],
+) -> Answer
     requires { length base < 2 ^ 32 }
-    ensures { IsAnswer base texts.requests.now texts.faults.now texts.trace.now result }
+    ensures { IsAnswer base requests.now faults.now trace.now result }
 {
-    let plan = match read_requests(alloc, texts.requests) {
+    let plan = match read_requests(alloc, requests) {
         Ok(plan) => plan,
         Err(TextEnd::Bad { line }) => return Answer::BadRequests { line },
         Err(TextEnd::NoMemory) => return Answer::NoMemory,
     };
-    let faults = match read_faults(alloc, texts.faults) {
+    let faults = match read_faults(alloc, faults) {
         Ok(faults) => faults,
         Err(TextEnd::Bad { line }) => return Answer::BadFaults { line },
         Err(TextEnd::NoMemory) => return Answer::NoMemory,
     };
-    let items = match read_items(alloc, texts.trace) {
+    let items = match read_items(alloc, trace) {
         Ok(items) => items,
         Err(TextEnd::Bad { line }) => return Answer::BadTrace { line },
         Err(TextEnd::NoMemory) => return Answer::NoMemory,

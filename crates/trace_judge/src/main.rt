@@ -8,7 +8,7 @@ mod judge;
 
 use crate::answer::Answer;
 use crate::image::base_of;
-use crate::judge::{Texts, judge_texts};
+use crate::judge::judge_texts;
 use io_edge::{StdSink, StdSource, put_all, take_all};
 use std::env;
 use std::fs::File;
@@ -21,8 +21,8 @@ const PAGE_SIZE: u64 = 512;
 /// The pages of the largest image.
 const MOST_PAGES: u64 = 8 + 65_536;
 
-/// The most bytes of a text that are read.
-const MOST_BYTES: u32 = 0x4000_0000;
+/// The most bytes of a text. One more is read, so that a longer one is refused.
+const MOST_BYTES: u32 = 16_777_216;
 
 fn main(rt: HostRuntime) -> ExitCode {
     let answer = match read_words(&rt) {
@@ -64,12 +64,13 @@ fn answer_to(rt: &HostRuntime, words: &[String]) -> Answer {
         Ok(None) => return Answer::BadImage,
         Err(_) => return Answer::NoMemory,
     };
-    let texts = Texts {
-        requests: requests.as_slice(),
-        faults: faults.as_slice(),
-        trace: trace.as_slice(),
-    };
-    judge_texts(rt.alloc(), base, texts)
+    judge_texts(
+        rt.alloc(),
+        base,
+        requests.as_slice(),
+        faults.as_slice(),
+        trace.as_slice(),
+    )
 }
 
 // The whole pages of a file, as many as an image may have.
