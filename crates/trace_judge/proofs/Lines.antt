@@ -13,7 +13,7 @@ use Rattle.storage_order.specs.declared.accept.Refuse.TheVariants.{Rule}
 use Rattle.trace_judge.specs.Verdicts.{IsRejectedAt}
 
 -- the state of a result
-state_of : State → Result State ℕ → State
+abbrev state_of : State → Result State ℕ → State
 state_of s (Ok t) = t
 state_of s (Err rule) = s
 
@@ -60,7 +60,7 @@ pub took_all : (base : List Block) (plan : Plan) (faults : Faults) (s t : State)
     → length items ≤ i → Took s t items i → IsOk (accept base plan faults items)
 unfolding accept
 took_all base plan faults s t items i from past took =
-    let all : accept_from items s ≡ Ok t = ap (λ lines. accept_from lines s) (sym (take_all items i past)) ∙ took.all in
+    let all : accept_from items s ≡ Ok t = ap (λ lines. accept_from lines s) (sym (take_all i items past)) ∙ took.all in
     let P : State → Type 0 = λ x. accept_from items x ≡ Ok t in
     ok_is (accept_from items (started base plan faults)) t (subst P from all)
 
