@@ -1,5 +1,5 @@
 -- The verdicts, and what each says of the lines of a run.
-use Rattle.std.specs.Prelude.{◌≡◌, ℕ, ◌+◌, ◌-◌, ◌≤◌, Bool, true, false, Option, Some, None, List, length, slice_get, take, IsOk, Err}
+use Rattle.std.specs.Prelude.{◌≡◌, ℕ, ◌-◌, ◌≤◌, Bool, true, false, Option, Some, List, length, slice_get, take, IsOk, Err}
 use Rattle.storage_model.specs.declared.block.Block.{Block}
 use Rattle.storage_model.specs.declared.faults.Faults.{Faults}
 use Rattle.storage_model.specs.declared.plan.Plan.{Plan}
