@@ -1,4 +1,4 @@
-ghost use Rattle.std.specs.Prelude.{◌≡◌, ◌↔◌, ◌+◌, ◌-◌, ◌<◌, ◌≤◌, ◌^◌, ℕ, IfOk, IsOk, OnErr, OnOk, length, replicate};
+ghost use Rattle.std.specs.Prelude.{◌≡◌, ◌↔◌, ◌+◌, ◌-◌, ◌<◌, ◌≤◌, ◌^◌, ℕ, IfOk, IsOk, IsTrue, OnErr, OnOk, length, replicate};
 
 use std::alloc::Global;
 use std::marker::Model;
@@ -36,6 +36,14 @@ impl HostMem {
     {
         let bytes = vec![in alloc; 0; len as usize]?;
         Ok(HostMem { base, bytes })
+    }
+
+    /// Whether there is a byte at each of the `len` addresses from `at` on.
+    pub fn has(&self, at: u64, len: usize) -> bool
+        ensures inside { IsTrue result ↔ HasRange self.now at len }
+        ensures below { IsTrue result → at + len < 2 ^ 64 }
+    {
+        self.place_of(at, len).is_ok()
     }
 
     /// The byte at the address.
