@@ -1,5 +1,5 @@
 -- What is known of the pieces of a chain.
-use Rattle.std.proofs.Common.{◌≡◌, ℕ, ◌+◌, ◌≤◌, ◌<◌, Bool, List, [], ◌∷◌, ◌++◌, length, sym, ap, subst, ◌∙◌, arith, Ok}
+use Rattle.std.proofs.Common.{◌≡◌, ℕ, ◌+◌, ◌≤◌, Bool, List, [], ◌∷◌, ◌++◌, length, sym, ap, subst, arith, Ok}
 use Rattle.std.proofs.lemmas.List.Elements.{All-head, All-cons}
 use Rattle.host_mem.specs.Memory.{Memory}
 use Rattle.cq_desc.specs.declared.xfer.Xfer.{Xfer}

@@ -70,12 +70,11 @@ fn word_at(mem: &HostMem, at: u64) -> Result<u64, ChainFault>
 
 /// The bytes that are wanted after a descriptor, of `left` before it.
 fn left_after(mem: &HostMem, desc: Xfer, left: u32) -> Result<u32, ChainFault>
-    requires { AreNotEmpty (pieces_of (desc ∷ [])) }
     ensures { result ≡ left_after mem.now desc left }
 {
     match desc {
         Xfer::Piece { len, at, .. } => {
-            if !is_inside(mem, at, len) {
+            if !mem.has(at, len as usize) {
                 return Err(ChainFault::Hole);
             }
             if left < len {
@@ -85,15 +84,6 @@ fn left_after(mem: &HostMem, desc: Xfer, left: u32) -> Result<u32, ChainFault>
         }
         Xfer::Link { .. } | Xfer::Nop { .. } => Ok(left),
     }
-}
-
-/// Whether all bytes of a piece are in the memory: they are where the first and the last are.
-fn is_inside(mem: &HostMem, at: u64, len: u32) -> bool
-    requires { 1 ≤ len }
-    ensures { IsTrue result ↔ HasRange mem.now at len }
-{
-    let last = at.saturating_add(u64::from(len - 1));
-    mem.get(at).is_ok() && mem.get(last).is_ok()
 }
 
 fn ends(desc: Xfer) -> bool
