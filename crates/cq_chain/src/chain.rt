@@ -1,8 +1,8 @@
-ghost use Rattle.std.specs.Prelude.{◌≡◌, ◌↔◌, ◌+◌, ◌<◌, ◌≤◌, ◌^◌, ℕ, List, [], ◌∷◌, IfErr, IfOk, IsOk, IsTrue, OnErr, OnOk, Err, Ok};
+ghost use Rattle.std.specs.Prelude.{◌≡◌, ◌↔◌, ◌+◌, ◌<◌, ◌^◌, List, IfErr, IfOk, IsOk, OnOk, Err, Ok};
 ghost use Rattle.host_mem.specs.Memory.{HasRange};
 ghost use Rattle.cq_chain.specs.declared.fault.ChainFault.{ChainFault};
 ghost use Rattle.cq_chain.specs.declared.pieces.Piece.{Piece};
-ghost use Rattle.cq_chain.specs.Descriptors.{AreNotEmpty, Reads, ends, next, pieces_of, size_of, word_at};
+ghost use Rattle.cq_chain.specs.Descriptors.{Reads, ends, next, size_of, word_at};
 ghost use Rattle.cq_chain.specs.Chain.{HasFault, HasPieces, longest_chain};
 ghost use Rattle.cq_chain.specs.Steps.{left_after, read_at};
 
@@ -43,7 +43,6 @@ pub fn walk(mem: &HostMem, at: u64, want: u32, wide: bool) -> Result<Pieces, Cha
 
 fn descriptor_at(mem: &HostMem, at: u64, wide: bool) -> Result<Xfer, ChainFault>
     ensures value { result ≡ read_at mem.now wide at }
-    ensures some { IfOk result (λ desc. AreNotEmpty (pieces_of (desc ∷ []))) }
     ensures below { OnOk result (at + size_of wide < 2 ^ 64) }
 {
     let low = word_at(mem, at)?;

@@ -3,7 +3,7 @@ use Rattle.std.proofs.lemmas.Bool.{false≢true}
 use Rattle.std.proofs.lemmas.Result.{err_from_is_err_and}
 use Rattle.cq_desc.specs.declared.fault.DescFault.{DescFault}
 use Rattle.cq_desc.specs.declared.fault.DescFault.TheVariants.{NotValid, BadAct}
-use Rattle.cq_chain.proofs.Readings.{read-some, wide-reads, narrow-reads, read_at-no_low, read_at-no_high}
+use Rattle.cq_chain.proofs.Readings.{wide-reads, narrow-reads, read_at-no_low, read_at-no_high}
 use Rattle.cq_chain.proofs.chain.descriptor_at.Goals as goal
 use Rattle.cq_chain.proofs.chain.descriptor_at.Goals.{then-wide+in_ok-high, else-wide}
 
@@ -48,7 +48,3 @@ returns-in-Err-BadAct-clause-value c = elim c.if-wide.branch [
       (c.in_ok-low.ensures.inside.0 refl) c.in_ok-low.ensures.value w.high-is
       (Err BadAct) (ap (λ (f : DescFault). Err f) (sym c.in-Err-BadAct.field-0-is) ∙ c.in-Err-BadAct.ensures.value)
 ]
-
-pub returns-in-Ok-clause-some : goal.returns-in-Ok-clause-some
-returns-in-Ok-clause-some c =
-    read-some c.in_ok-low.low c.if-wide.high c.args.wide c.in-Ok.desc (sym c.in-Ok.ensures.value)
