@@ -21,12 +21,13 @@ use crate::sector::{discard, flush, show};
 use array_edge::Array;
 use bus_link::ScriptLink;
 use card_core::Card;
+use card_events::engine_event;
 use cq_engine::{Did, Engine};
 use cq_regs::Regs;
 use host_mem::HostMem;
 use intent_store::StartEnd;
 use io_edge::Sink;
-use raw_machine::{event_of_card, goes_on};
+use raw_machine::goes_on;
 use raw_text::RawOp;
 use std::alloc::Global;
 use std::marker::Model;
@@ -254,7 +255,7 @@ impl Raw {
         ensures image { ShowsImage (A.state array.new) }
         ensures ends { EventEnds (link_state (behind self.old.card (A.state array.old) self.old.script)) (link_state (behind self.new.card (A.state array.new) self.new.script)) (stop_of result) }
     {
-        event_of_card(
+        engine_event(
             &mut self.engine,
             &mut self.regs,
             &mut self.mem,

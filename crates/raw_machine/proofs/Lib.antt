@@ -4,7 +4,6 @@ pub mod Blocks
 pub mod Falling
 pub mod Kept
 pub mod Leading
-pub mod Mapped
 pub mod Naming
 pub mod Phases
 pub mod NextDue

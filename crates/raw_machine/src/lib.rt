@@ -2,8 +2,6 @@
 //! an event of the engine over the card, and whether the engine goes on after it.
 #![tactic(auto)]
 
-mod bus;
 mod going;
 
-pub use bus::event_of_card;
 pub use going::goes_on;

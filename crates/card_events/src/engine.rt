@@ -16,7 +16,7 @@ use cq_regs::Regs;
 use host_mem::HostMem;
 
 /// One event of the engine over the card.
-pub fn event_of_card<A: Array>(
+pub fn engine_event<A: Array>(
     engine: &mut Engine,
     regs: &mut Regs,
     mem: &mut HostMem,
@@ -38,11 +38,11 @@ pub fn event_of_card<A: Array>(
         array,
         link: script,
     };
-    event_over(engine, regs, mem, &mut link)
+    engine_over(engine, regs, mem, &mut link)
 }
 
 // One event over a link to a card.
-fn event_over<A: Array>(
+fn engine_over<A: Array>(
     engine: &mut Engine,
     regs: &mut Regs,
     mem: &mut HostMem,

@@ -1,0 +1,2 @@
+pub mod EngineMapped
+pub mod DriverMapped
