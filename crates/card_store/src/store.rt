@@ -9,7 +9,7 @@ ghost use Rattle.intent_store.specs.declared.ends.StartEnd.TheVariants.{BadImage
 ghost use Rattle.card_store.specs.declared.ends.StageEnd.TheVariants.{Empty};
 ghost use Rattle.epoch_cache.specs.Cache.{newest_of, next_epoch};
 ghost use Rattle.card_store.specs.Staging.{HasRoom, IsFull, StageEnds, only_settled, spared, with_line};
-ghost use Rattle.card_store.specs.Store.{Contents, HasSector, IsFirstFrom, HasSectors, IsOpen, IsSameStore, Reads, Stands, Store, Turns, has_put, kept, same, sectors_of, with_bar, with_put};
+ghost use Rattle.card_store.specs.Store.{Contents, HasSector, IsFirstFrom, HasSectors, IsOpen, IsSameStore, IsStore, Reads, Stands, Store, Turns, has_put, kept, same, sectors_of, with_bar, with_put};
 
 use crate::StageEnd;
 use crate::sector_set::SectorSet;
@@ -65,6 +65,14 @@ impl CardStore {
             Some(intent) => intent.sectors(),
             None => unreachable!(),
         }
+    }
+
+    /// Tells what the store keeps of its cache: it has one line at most for each sector and epoch, in order of epochs, and its lines
+    /// are of the image. It does nothing.
+    pub fn keeps_lines(&self)
+        ensures { IsStore self.now }
+    {
+        let _ = self.intent.is_some();
     }
 
     /// Whether a put on the sector is pending: a loss of power may leave the sector otherwise than it reads.

@@ -7,4 +7,4 @@ mod schedule;
 
 pub use held::{HeldTask, HeldTasks};
 pub use rules::Due;
-pub use schedule::due;
+pub use schedule::{due, first_at};

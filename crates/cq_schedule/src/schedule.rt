@@ -76,8 +76,8 @@ fn slot_at(regs: &Regs, k: u8) -> Option<u8>
     regs.rung(k)
 }
 
-// The first slot in order of ringing that has come just so far.
-fn first_at(regs: &Regs, progress: Progress) -> Option<u8>
+/// The first slot in order of ringing that has come just so far.
+pub fn first_at(regs: &Regs, progress: Progress) -> Option<u8>
     ensures value { result ≡ first_at progress regs.now.ring }
     ensures at { IfSome result (λ slot. progress_of regs.now.ring slot ≡ progress) }
     ensures below { IfSome result (λ slot. slot < 32) }

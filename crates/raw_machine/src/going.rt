@@ -1,7 +1,6 @@
 // Whether the engine goes on after an event.
 ghost use Rattle.std.specs.Prelude.{◌≡◌, ◌<◌, IfSome};
 ghost use Rattle.cq_regs.specs.declared.slots.Progress.TheVariants.{Ready};
-ghost use Rattle.cq_schedule.specs.Held.{same};
 ghost use Rattle.cq_schedule.specs.Order.{first_at};
 ghost use Rattle.cq_engine.specs.declared.did.Did.TheVariants.{Sent as SentCommand};
 ghost use Rattle.raw_machine.specs.Running.{IsBelow, goes_on};
@@ -9,6 +8,7 @@ ghost use Rattle.raw_machine.specs.Running.{IsBelow, goes_on};
 use cmd_words::Command;
 use cq_engine::Did;
 use cq_regs::{Progress, Regs};
+use cq_schedule::first_at;
 
 /// Whether the engine goes on after an event.
 pub fn goes_on(did: &Did, regs: &Regs) -> bool
@@ -32,32 +32,7 @@ fn goes_on_after(command: &Command, regs: &Regs) -> bool
     ensures below { IsBelow (SentCommand command.now) regs.now }
 {
     match command {
-        Command::Status { queue: true, .. } => first_ready(regs).is_some(),
+        Command::Status { queue: true, .. } => first_at(regs, Progress::Ready).is_some(),
         _ => true,
-    }
-}
-
-// The first ready slot in order of ringing.
-fn first_ready(regs: &Regs) -> Option<u8>
-    ensures value { result ≡ first_at Ready regs.now.ring }
-    ensures below { IfSome result (λ slot. slot < 32) }
-{
-    for k in 0..32u8 {
-        let Some(slot) = regs.rung(k) else {
-            return None;
-        };
-        if is_ready(regs.progress(slot)) {
-            return Some(slot);
-        }
-    }
-    None
-}
-
-fn is_ready(progress: Progress) -> bool
-    ensures { result ≡ same progress Ready }
-{
-    match progress {
-        Progress::Ready => true,
-        _ => false,
     }
 }
