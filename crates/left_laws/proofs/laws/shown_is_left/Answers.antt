@@ -1,0 +1,5 @@
+use Rattle.left_laws.proofs.Backs.{left_shown}
+use Rattle.left_laws.proofs.laws.shown_is_left.Goals as goal
+
+pub returns : goal.returns
+returns c = left_shown
