@@ -3,6 +3,7 @@ use Rattle.std.proofs.Common.{◌≡◌, ◌∙◌, ℕ, suc, ◌+◌, ◌<◌, 
 use Rattle.left_laws.proofs.Lowest.{next_skip, none_at}
 use Rattle.left_laws.proofs.Sectors.{put_inside, shown_put, shown_skip, steady}
 use Rattle.left_laws.proofs.Values.{Rests, epochs_more, epochs_same, epochs_skip, lefts_put, lefts_same, lefts_skip, made}
+use Rattle.left_laws.specs.Laws.{IsLastState}
 use Rattle.left_laws.specs.Lines.{OwesLeft, all_shown, epochs_below, has_put, left_line, lefts_below, part_shown, shown_below}
 use Rattle.storage_machine.specs.Cuts.{next_left}
 use Rattle.storage_machine.specs.declared.state.Event.{Event}
@@ -51,7 +52,7 @@ pub shown_some : (s : State) (after : List Block) (n k : ℕ) → next_left s.pe
 unfolding shown_below
 shown_some s after n k at = ap (λ best. cond (is_none best) (all_shown s after) (part_shown s after n)) at
 
-pub shown_none : (s : State) (after : List Block) (n : ℕ) → next_left s.pend n ≡ None → shown_below s after n ≡ all_shown s after
+pub shown_none : (s : State) (after : List Block) (n : ℕ) → IsLastState s after n
 unfolding shown_below
 shown_none s after n at = ap (λ best. cond (is_none best) (all_shown s after) (part_shown s after n)) at
 

@@ -6,4 +6,5 @@ pub mod Effects
 pub mod Rules
 pub mod Shows
 pub mod Backs
+pub mod Kept
 pub mod Ons

@@ -6,7 +6,7 @@ use Rattle.left_laws.proofs.Rules.{rule_holds}
 use Rattle.left_laws.proofs.Sectors.{map_skip, steady}
 use Rattle.left_laws.proofs.Shows.{all_lines, option_cases}
 use Rattle.left_laws.proofs.Values.{made}
-use Rattle.left_laws.specs.Laws.{IsCalm, IsOnShown, TurnsOn, lit}
+use Rattle.left_laws.specs.Laws.{IsCalm, IsOnShown, TurnsOn, after_power}
 use Rattle.left_laws.specs.Lines.{CanBeLeft, OwesLeft, all_shown, has_put, left_line, left_lines, lines_below}
 use Rattle.storage_machine.specs.Cuts.{next_left}
 use Rattle.storage_machine.specs.declared.state.Event.TheVariants.{Untold}
@@ -18,6 +18,7 @@ use Rattle.storage_model.specs.Contents.{IsWithin}
 use Rattle.storage_model.specs.declared.block.Block.{Block}
 use Rattle.storage_model.specs.declared.trace.Item.TheVariants.{On}
 use Rattle.storage_order.specs.Events.{Fits, More, goes_on}
+use Rattle.trace_effects.specs.Cuts.{is_deferred}
 use Rattle.trace_effects.specs.Effects.{after_on, effect, left_from, powered}
 use Rattle.trace_rules.specs.Lines.{holds, line_rule, may_be_on, on_holds}
 use Rattle.trace_rules.specs.Steps.{stands_in}
@@ -46,11 +47,15 @@ owes_at s m k put within = record { owed = refl; event = refl; lefts = refl; epo
 calm_at : (s : State) → IsCalm s (left_from (powered s) None)
 calm_at s = record { owed = refl; event = refl; base = refl; pend = refl }
 
+same_deferred : (s : State) → is_deferred (powered s) ≡ is_deferred s
+same_deferred s = refl
+
 pub turns_on : (s : State) → TurnsOn s
 turns_on s = record {
   some = λ k put within. let some = on_some s k put in subst OwesLeft (sym (on_at s (Some some.0) some.1)) (owes_at s some.0 k put within);
   base = ap (λ (x : State). x.base) (on_is s) ∙ base_by s (next_left s.pend 0);
   pend = λ k put. let some = on_some s k put in ap (λ (x : State). x.pend) (on_at s (Some some.0) some.1);
+  deferred = λ k put. let some = on_some s k put in ap (λ (x : State). x.deferred) (on_at s (Some some.0) some.1) ∙ same_deferred s;
   none = λ off. subst (IsCalm s) (sym (on_at s None (next_none s.pend 0 (λ j above. off j)))) (calm_at s);
 }
 
@@ -85,11 +90,11 @@ lines_none : (s : State) (after : List Block) → CanBeLeft s.base s.pend after 
 lines_none s after can off =
     subst (λ lines. More (left_from (powered s) None) lines (calm_with s after)) (sym (no_lines s after off)) (ap (calm_with s) (sym (kept_all s after can off)))
 
-lit_by : (s : State) (after : List Block) (best : Option ℕ) → next_left s.pend 0 ≡ best → All (IsWithin s.base) s.pend → CanBeLeft s.base s.pend after
+power_by : (s : State) (after : List Block) (best : Option ℕ) → next_left s.pend 0 ≡ best → All (IsWithin s.base) s.pend → CanBeLeft s.base s.pend after
     → More (left_from (powered s) best) (left_lines s.pend after) (cond (is_none best) (calm_with s after) (all_shown (powered s) after))
-lit_by s after None at within can = lines_none s after can (λ j. none_at s.pend 0 at j (omega arith))
-lit_by s after (Some m) at within can = lines_some s after m m (next_at s.pend 0 m at).1 within can
+power_by s after None at within can = lines_none s after can (λ j. none_at s.pend 0 at j (omega arith))
+power_by s after (Some m) at within can = lines_some s after m m (next_at s.pend 0 m at).1 within can
 
 pub on_shown : (s : State) (after : List Block) → IsOnShown s after
 on_shown s after event line within can =
-    (goes s s.owed (may_is s line), on_fits s event line, subst (λ u. More u (left_lines s.pend after) (lit s after)) (sym (on_is s)) (lit_by s after (next_left s.pend 0) refl within can))
+    (goes s s.owed (may_is s line), on_fits s event line, subst (λ u. More u (left_lines s.pend after) (after_power s after)) (sym (on_is s)) (power_by s after (next_left s.pend 0) refl within can))

@@ -1,8 +1,8 @@
 -- The sectors with a put, below a bound.
-use Rattle.std.proofs.Common.{◌≡◌, ◌∙◌, ℕ, zero, suc, ◌+◌, ◌-◌, ◌<◌, ◌≤◌, inl, inr, true, false, cond, ◌==◌, All, List, [], ◌∷◌, ◌++◌, filter, length, map, refl, ap, sym, arith}
-use Rattle.std.proofs.lemmas.Bool.{cases_Bool, cases_lt, eqb-true, or_cases}
+use Rattle.std.proofs.Common.{◌≡◌, ◌∙◌, ℕ, zero, suc, ◌+◌, ◌-◌, ◌<◌, ◌≤◌, inl, inr, true, false, cond, ◌==◌, All, List, [], ◌∷◌, ◌++◌, filter, length, map, refl, ap, sym, subst, arith}
+use Rattle.std.proofs.lemmas.Bool.{both_ways, cases_Bool, cases_lt, eqb-true, or_cases}
 use Rattle.std.proofs.lemmas.List.{append-nil, map-append}
-use Rattle.std.proofs.lemmas.List.Elements.{All-head, All-tail, filter-append}
+use Rattle.std.proofs.lemmas.List.Elements.{All-cons, All-head, All-tail, filter-append}
 use Rattle.std.specs.List.{range_with_len}
 use Rattle.left_laws.specs.Lines.{has_put, put_sectors, shown_to}
 use Rattle.storage_model.specs.Contents.{IsWithin}
@@ -44,6 +44,33 @@ map_put f pend n put = ap (map f) (sectors_put pend n put) ∙ map-append f (put
 
 pub map_skip : {X : Type 0} (f : ℕ → X) (pend : List Mark) (n : ℕ) → has_put n pend ≡ false → map f (put_sectors pend (suc n)) ≡ map f (put_sectors pend n)
 map_skip f pend n off = ap (map f) (sectors_skip pend n off)
+
+-- what holds of all lines holds of a sector's
+
+all_front : {X : Type 0} (P : X → Type 0) (xs : List X) (y : X) → All P (xs ++ y ∷ []) → All P xs
+all_front P [] y all = λ k d below. absurd (omega arith)
+all_front P (x ∷ xs) y all = All-cons P x xs (All-head P x (xs ++ y ∷ []) all) (all_front P xs y (All-tail P x (xs ++ y ∷ []) all))
+
+all_last : {X : Type 0} (P : X → Type 0) (xs : List X) (y : X) → All P (xs ++ y ∷ []) → P y
+all_last P [] y all = All-head P y [] all
+all_last P (x ∷ xs) y all = all_last P xs y (All-tail P x (xs ++ y ∷ []) all)
+
+pub All_put : {X : Type 0} (f : ℕ → X) (P : X → Type 0) (pend : List Mark) (n k : ℕ) → All P (map f (put_sectors pend n)) → k < n → has_put k pend ≡ true → P (f k)
+All_put f P pend zero k all below put = absurd (omega arith)
+All_put f P pend (suc n) k all below put =
+    elim (cases_Bool (has_put n pend)) [
+      | inl last ↦
+          let split : All P (map f (put_sectors pend n) ++ f n ∷ []) = subst (All P) (map_put f pend n last) all in
+          elim (cases_lt k n) [
+            | inl before ↦ All_put f P pend n k (all_front P (map f (put_sectors pend n)) (f n) split) before put
+            | inr here ↦ let is : n ≡ k = omega arith in subst (λ j. P (f j)) is (all_last P (map f (put_sectors pend n)) (f n) split)
+          ]
+      | inr off ↦
+          elim (cases_lt k n) [
+            | inl before ↦ All_put f P pend n k (subst (All P) (map_skip f pend n off) all) before put
+            | inr here ↦ let is : k ≡ n = omega arith in absurd (both_ways (has_put k pend) (ap (λ j. has_put j pend) is ∙ off) put)
+          ]
+    ]
 
 -- two functions that agree on the sectors
 pub map_same : {X : Type 0} (f g : ℕ → X) (pend : List Mark) (n : ℕ) → ((j : ℕ) → j < n → f j ≡ g j) → map f (put_sectors pend n) ≡ map g (put_sectors pend n)

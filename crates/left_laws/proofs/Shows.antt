@@ -6,15 +6,19 @@ use Rattle.left_laws.proofs.Lowest.{next_at, next_is, next_none, none_at}
 use Rattle.left_laws.proofs.Rules.{line_may, line_so}
 use Rattle.left_laws.proofs.Sectors.{map_put, map_skip, none_outside, put_inside}
 use Rattle.left_laws.proofs.Values.{Rests}
-use Rattle.left_laws.specs.Laws.{AreFirstShown, IsNextShown, IsSectorPassed, IsShown, IsShownBelow, IsShownSo}
+use Rattle.left_laws.specs.Laws.{AreFirstShown, IsFaultShown, IsFirstState, IsNextSector, IsNextShown, IsSectorPassed, IsShown, IsShownBelow, IsShownSo}
 use Rattle.left_laws.specs.Lines.{CanBeLeft, OwesLeft, all_shown, has_put, left_line, left_lines, lines_below, part_shown, shown_below}
 use Rattle.storage_machine.specs.Cuts.{next_left}
+use Rattle.storage_machine.specs.declared.state.Owed.TheVariants.{End as Ended}
 use Rattle.storage_machine.specs.declared.state.State.{State}
 use Rattle.storage_model.specs.declared.block.Block.{Block}
 use Rattle.storage_model.specs.declared.marks.Mark.{Mark}
+use Rattle.storage_model.specs.declared.trace.End.TheVariants.{Fault as FaultEnd}
 use Rattle.storage_model.specs.declared.trace.Item.{Item}
+use Rattle.storage_model.specs.declared.trace.Item.TheVariants.{Off}
 use Rattle.storage_order.specs.Events.{More}
-use Rattle.trace_effects.specs.Effects.{effect}
+use Rattle.trace_effects.specs.Effects.{after_off, effect, over}
+use Rattle.trace_rules.specs.Lines.{holds, line_rule, off_holds}
 use Rattle.trace_rules.specs.Steps.{is_left_so}
 
 pub option_cases : (best : Option ℕ) → (best ≡ None) ⊎ ((k : ℕ) × (best ≡ Some k))
@@ -26,11 +30,11 @@ rests_of s after can = record { size = can.size; rest = can.rest }
 
 -- lists of further lines
 
-more_append : (s u t : State) (xs ys : List Item) → More s xs u → More u ys t → More s (xs ++ ys) t
+pub more_append : (s u t : State) (xs ys : List Item) → More s xs u → More u ys t → More s (xs ++ ys) t
 more_append s u t [] ys first second = subst (λ x. More x ys t) first second
 more_append s u t (x ∷ xs) ys first second = (first.0, first.1, more_append (effect s x) u t xs ys first.2 second)
 
-more_take : (s t : State) (k : ℕ) (xs : List Item) → More s xs t → (u : State) × More s (take k xs) u
+pub more_take : (s t : State) (k : ℕ) (xs : List Item) → More s xs t → (u : State) × More s (take k xs) u
 more_take s t zero xs more = (s, refl)
 more_take s t (suc k) [] more = (s, refl)
 more_take s t (suc k) (x ∷ xs) more = let rest = more_take (effect s x) t k xs more.2 in (rest.0, (more.0, more.1, rest.1))
@@ -64,12 +68,21 @@ shown_so s after n k owes kept at =
     subst (λ u. is_left_so u (left_line after k) ≡ true) (sym (shown_some s after n k at))
     (line_so s after n k (put_inside s.base s.pend k owes.within (next_at s.pend n k at).1) kept)
 
-next_here : (pend : List Mark) (n : ℕ) → has_put n pend ≡ true → next_left pend n ≡ Some n
+pub next_here : (pend : List Mark) (n : ℕ) → IsNextSector pend n
 next_here pend n put = next_is pend n n (omega arith) put (λ j a b. absurd (omega arith))
+
+-- the end in place of a line
+
+fault_by : (s : State) (after : List Block) (n : ℕ) → More (part_shown s after n) (Off FaultEnd ∷ []) (over (part_shown s after n) Ended)
+unfolding line_rule holds off_holds effect after_off
+fault_by s after n = (refl, record { line = refl; stands = refl; first = refl }, refl)
+
+pub fault_shown : (s : State) (after : List Block) (n k : ℕ) → IsFaultShown s after n k
+fault_shown s after n k at = subst (λ u. More u (Off FaultEnd ∷ []) (over u Ended)) (sym (shown_some s after n k at)) (fault_by s after n)
 
 -- all lines
 
-first_shown : (s : State) (after : List Block) → OwesLeft s → shown_below s after 0 ≡ s
+pub first_shown : (s : State) (after : List Block) → IsFirstState s after
 first_shown s after owes =
     elim (option_cases (next_left s.pend 0)) [
       | inl none ↦ absurd (both_ways (has_put owes.sector s.pend) (none_at s.pend 0 none owes.sector (omega arith)) owes.put)

@@ -117,7 +117,7 @@ made_below base pend after (suc n) j rests inside below =
       ]
     ]
 
-sectors_same : (xs ys : List Block) → length xs ≡ length ys → ((j : ℕ) → j < length xs → sector_at xs j ≡ sector_at ys j) → xs ≡ ys
+pub sectors_same : (xs ys : List Block) → length xs ≡ length ys → ((j : ℕ) → j < length xs → sector_at xs j ≡ sector_at ys j) → xs ≡ ys
 sectors_same xs ys size same = same_lists xs ys size (λ k d below.
     get_or_default xs k d (record { 0 = [] }) below ∙ (same k below ∙ get_or_default ys k (record { 0 = [] }) d (omega arith)))
 

@@ -1,5 +1,5 @@
 // What may be left after a cut, and the lines that show it.
-ghost use Rattle.left_laws.specs.Laws.{AreFirstShown, IsLeftShown, IsNextShown, IsOnShown, IsRestKept, IsSectorPassed, IsShown, IsShownBelow, IsShownSo, TurnsOn};
+ghost use Rattle.left_laws.specs.Laws.{AreFirstShown, AreKept, IsFaultShown, IsFirstState, IsLastState, IsLeftShown, IsNextSector, IsNextShown, IsOnShown, IsRestKept, IsSectorPassed, IsShown, IsShownBelow, IsShownSo, TurnsOn};
 ghost use Rattle.std.specs.Prelude.{List, ℕ};
 ghost use Rattle.storage_machine.specs.declared.state.State.{State};
 ghost use Rattle.storage_model.specs.declared.block.Block.{Block};
@@ -28,16 +28,21 @@ pub fn left_is_shown()
     ensures powered { (s : State) → (after : List Block) → IsOnShown s after }
 {}
 
-/// Line by line, and sector by sector.
+/// Line by line, and sector by sector; and the end in place of a line.
 #[tactic(auto)]
 pub fn next_line_is_shown()
+    ensures start { (s : State) → (after : List Block) → IsFirstState s after }
+    ensures sector { (pend : List Mark) → (n : ℕ) → IsNextSector pend n }
     ensures next { (s : State) → (after : List Block) → (n k : ℕ) → IsNextShown s after n k }
     ensures passed { (s : State) → (after : List Block) → (n : ℕ) → IsSectorPassed s after n }
+    ensures last { (s : State) → (after : List Block) → (n : ℕ) → IsLastState s after n }
+    ensures fault { (s : State) → (after : List Block) → (n k : ℕ) → IsFaultShown s after n k }
     ensures so { (s : State) → (after : List Block) → (n k : ℕ) → IsShownSo s after n k }
 {}
 
 /// Lines that may stand, up to the last, show contents that a cut may leave.
 #[tactic(auto)]
 pub fn shown_is_left()
-    ensures { (s t : State) → (lines : List Item) → IsLeftShown s lines t }
+    ensures left { (s t : State) → (lines : List Item) → IsLeftShown s lines t }
+    ensures kept { (s t : State) → (lines : List Item) → AreKept s lines t }
 {}

@@ -1,5 +1,14 @@
-use Rattle.left_laws.proofs.Shows.{next_shown, sector_passed, shown_so}
+use Rattle.left_laws.proofs.Effects.{shown_none}
+use Rattle.left_laws.proofs.Shows.{fault_shown, first_shown, next_here, next_shown, sector_passed, shown_so}
 use Rattle.left_laws.proofs.laws.next_line_is_shown.Goals as goal
 
 pub returns : goal.returns
-returns c = record { next = next_shown; passed = sector_passed; so = shown_so }
+returns c = record {
+  start = first_shown;
+  sector = next_here;
+  next = next_shown;
+  passed = sector_passed;
+  last = shown_none;
+  fault = fault_shown;
+  so = shown_so;
+}
