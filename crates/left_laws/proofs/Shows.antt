@@ -1,12 +1,12 @@
 -- The lines of contents that may be left are shown, one after the other.
 use Rattle.std.proofs.Common.{◌≡◌, ◌∙◌, ◌⊎◌, ℕ, zero, suc, ◌+◌, inl, inr, true, Option, Some, None, List, [], ◌∷◌, ◌++◌, length, take, refl, ap, sym, subst, arith}
-use Rattle.std.proofs.lemmas.Bool.{both_ways, cases_Bool}
+use Rattle.std.proofs.lemmas.Bool.{both_ways, cases_Bool, cases_lt}
 use Rattle.left_laws.proofs.Effects.{line_effect, part_first, part_steady, shown_none, shown_passed, shown_some}
 use Rattle.left_laws.proofs.Lowest.{next_at, next_is, next_none, none_at}
 use Rattle.left_laws.proofs.Rules.{line_may, line_so}
 use Rattle.left_laws.proofs.Sectors.{map_put, map_skip, none_outside, put_inside}
 use Rattle.left_laws.proofs.Values.{Rests}
-use Rattle.left_laws.specs.Laws.{AreFirstShown, IsFaultShown, IsFirstState, IsNextSector, IsNextShown, IsSectorPassed, IsShown, IsShownBelow, IsShownSo}
+use Rattle.left_laws.specs.Laws.{AreFirstShown, IsFaultShown, IsFirstState, IsNextSector, IsNextShown, IsNoSector, IsSectorPassed, IsShown, IsShownBelow, IsShownSo}
 use Rattle.left_laws.specs.Lines.{CanBeLeft, OwesLeft, all_shown, has_put, left_line, left_lines, lines_below, part_shown, shown_below}
 use Rattle.storage_machine.specs.Cuts.{next_left}
 use Rattle.storage_machine.specs.declared.state.Owed.TheVariants.{End as Ended}
@@ -68,8 +68,14 @@ shown_so s after n k owes kept at =
     subst (λ u. is_left_so u (left_line after k) ≡ true) (sym (shown_some s after n k at))
     (line_so s after n k (put_inside s.base s.pend k owes.within (next_at s.pend n k at).1) kept)
 
-pub next_here : (pend : List Mark) (n : ℕ) → IsNextSector pend n
-next_here pend n put = next_is pend n n (omega arith) put (λ j a b. absurd (omega arith))
+pub next_sector : (pend : List Mark) (n k : ℕ) → IsNextSector pend n k
+next_sector pend n k above put none = next_is pend n k above put none
+
+pub no_sector : (base : List Block) (pend : List Mark) (n : ℕ) → IsNoSector base pend n
+no_sector base pend n within none = next_none pend n (λ j above. elim (cases_lt j (length base)) [
+  | inl inside ↦ none j above inside
+  | inr out ↦ none_outside base pend j within out
+])
 
 -- the end in place of a line
 
@@ -95,7 +101,7 @@ below_shown s after (suc n) owes can inside =
     let before : More s (lines_below s.pend after n) (shown_below s after n) = below_shown s after n owes can (omega arith) in
     elim (cases_Bool (has_put n s.pend)) [
       | inl put ↦
-          let at : next_left s.pend n ≡ Some n = next_here s.pend n put in
+          let at : next_left s.pend n ≡ Some n = next_is s.pend n n (omega arith) put (λ j a b. absurd (omega arith)) in
           let one : More (shown_below s after n) (left_line after n ∷ []) (shown_below s after (suc n))
           = subst (λ u. More u (left_line after n ∷ []) (shown_below s after (suc n))) (sym (at_next s after n n can at)) (line_shown s after n owes can put) in
           subst (λ lines. More s lines (shown_below s after (suc n))) (sym (map_put (left_line after) s.pend n put))

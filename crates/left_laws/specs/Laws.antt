@@ -1,5 +1,5 @@
 -- The lines of what a cut left are those that the contents may be left by, and no others.
-use Rattle.std.specs.Prelude.{◌≡◌, ◌≤◌, ℕ, ◌+◌, Bool, true, false, if◌then◌else◌, Some, None, is_none, All, List, [], ◌∷◌, length, take}
+use Rattle.std.specs.Prelude.{◌≡◌, ◌≤◌, ◌<◌, ℕ, ◌+◌, Bool, true, false, if◌then◌else◌, Some, None, is_none, All, List, [], ◌∷◌, length, take}
 use Rattle.left_laws.specs.Lines.{CanBeLeft, OwesLeft, all_shown, has_put, left_line, left_lines, lines_below, shown_below}
 use Rattle.storage_machine.specs.Cuts.{next_left}
 use Rattle.storage_machine.specs.declared.state.Event.TheVariants.{Untold}
@@ -58,17 +58,23 @@ after_power s after =
 abbrev pub IsOnShown : State → List Block → Type 0
 IsOnShown s after = s.event ≡ Untold → line_rule s On ≡ None → All (IsWithin s.base) s.pend → CanBeLeft s.base s.pend after → More s (On ∷ left_lines s.pend after) (after_power s after)
 
--- Line by line: the states between are those of `shown_below`, and a sector without a put is passed.
+-- Line by line: the states between are those of `shown_below`, from the first on.
 abbrev pub IsFirstState : State → List Block → Type 0
 IsFirstState s after = OwesLeft s → shown_below s after 0 ≡ s
 
-abbrev pub IsNextSector : List Mark → ℕ → Type 0
-IsNextSector pend n = has_put n pend ≡ true → next_left pend n ≡ Some n
+-- the next sector with a put, and that there is none
+abbrev pub IsNextSector : List Mark → ℕ → ℕ → Type 0
+IsNextSector pend n k = n ≤ k → has_put k pend ≡ true → ((j : ℕ) → n ≤ j → j < k → has_put j pend ≡ false) → next_left pend n ≡ Some k
 
+abbrev pub IsNoSector : List Block → List Mark → ℕ → Type 0
+IsNoSector base pend n = All (IsWithin base) pend → ((j : ℕ) → n ≤ j → j < length base → has_put j pend ≡ false) → next_left pend n ≡ None
+
+-- one line, from the state where those of the sectors before are shown
 abbrev pub IsNextShown : State → List Block → ℕ → ℕ → Type 0
 IsNextShown s after n k = OwesLeft s → CanBeLeft s.base s.pend after → next_left s.pend n ≡ Some k
     → More (shown_below s after n) (left_line after k ∷ []) (shown_below s after (k + 1))
 
+-- a sector without a put is passed, and behind the last sector with one all is shown
 abbrev pub IsSectorPassed : State → List Block → ℕ → Type 0
 IsSectorPassed s after n = CanBeLeft s.base s.pend after → has_put n s.pend ≡ false → shown_below s after (n + 1) ≡ shown_below s after n
 

@@ -1,5 +1,5 @@
 // What may be left after a cut, and the lines that show it.
-ghost use Rattle.left_laws.specs.Laws.{AreFirstShown, AreKept, IsFaultShown, IsFirstState, IsLastState, IsLeftShown, IsNextSector, IsNextShown, IsOnShown, IsRestKept, IsSectorPassed, IsShown, IsShownBelow, IsShownSo, TurnsOn};
+ghost use Rattle.left_laws.specs.Laws.{AreFirstShown, AreKept, IsFaultShown, IsFirstState, IsLastState, IsLeftShown, IsNextSector, IsNextShown, IsNoSector, IsOnShown, IsRestKept, IsSectorPassed, IsShown, IsShownBelow, IsShownSo, TurnsOn};
 ghost use Rattle.std.specs.Prelude.{List, ℕ};
 ghost use Rattle.storage_machine.specs.declared.state.State.{State};
 ghost use Rattle.storage_model.specs.declared.block.Block.{Block};
@@ -32,7 +32,8 @@ pub fn left_is_shown()
 #[tactic(auto)]
 pub fn next_line_is_shown()
     ensures start { (s : State) → (after : List Block) → IsFirstState s after }
-    ensures sector { (pend : List Mark) → (n : ℕ) → IsNextSector pend n }
+    ensures sector { (pend : List Mark) → (n k : ℕ) → IsNextSector pend n k }
+    ensures none { (base : List Block) → (pend : List Mark) → (n : ℕ) → IsNoSector base pend n }
     ensures next { (s : State) → (after : List Block) → (n k : ℕ) → IsNextShown s after n k }
     ensures passed { (s : State) → (after : List Block) → (n : ℕ) → IsSectorPassed s after n }
     ensures last { (s : State) → (after : List Block) → (n : ℕ) → IsLastState s after n }
