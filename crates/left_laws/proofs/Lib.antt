@@ -1,0 +1,10 @@
+pub mod Lowest
+pub mod Sectors
+pub mod Rests
+pub mod Values
+pub mod Effects
+pub mod Rules
+pub mod Shows
+pub mod Backs
+pub mod Kept
+pub mod Ons
