@@ -1,9 +1,15 @@
 -- The letters of a fault text, which tell whose event comes, and its `cut` lines: what of both a run has used.
 use Rattle.std.specs.Prelude.{ℕ, ◌+◌, ◌-◌, ◌≤◌, ◌&&◌, nat_le, min, Bool, true, false, not, Option, List, ◌++◌, is_some, length, position, replicate, slice_get, zip}
 use Rattle.std.specs.List.{count_by}
+use Rattle.storage_machine.specs.declared.state.Event.{Event}
+use Rattle.storage_machine.specs.declared.state.Event.TheVariants.{Due}
+use Rattle.storage_machine.specs.declared.state.Owed.{Owed}
+use Rattle.storage_machine.specs.declared.state.Owed.TheVariants.{Dark}
 use Rattle.storage_machine.specs.declared.state.State.{State}
 use Rattle.storage_model.specs.Faults.{AreRising}
 use Rattle.storage_model.specs.declared.faults.Letter.{Letter}
+use Rattle.storage_model.specs.declared.trace.Item.{Item}
+use Rattle.storage_model.specs.declared.trace.Item.TheVariants.{Cut, Turn}
 use Rattle.trace_effects.specs.Cuts.{used as used_at}
 
 -- `letters`: how many letters are used; `used`: of each `cut` line whether it is
@@ -46,6 +52,22 @@ with_letter order = record order { letters = min (order.letters + 1) (length ord
 -- the due line is used, where one is due
 abbrev pub with_line : OrderState → ℕ → OrderState
 with_line order sent = record order { used = used_at order.used (line_at order sent) }
+
+-- power is lost in an event: the due line that forced it is used, and none where none did
+abbrev pub cut_in : Event → OrderState → ℕ → OrderState
+cut_in Due order sent = with_line order sent
+cut_in event order sent = order
+
+-- a loss of power that is told already: further cuts use no line
+abbrev pub is_dark : Owed → Bool
+is_dark (Dark cuts) = true
+is_dark owed = false
+
+-- the lines that tell of a use
+abbrev pub tells_of_use : Item → Bool
+tells_of_use (Turn letter) = true
+tells_of_use Cut = true
+tells_of_use item = false
 
 -- what is left of both
 abbrev pub letters_left : OrderState → ℕ

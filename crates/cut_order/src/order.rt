@@ -1,9 +1,12 @@
-ghost use Rattle.std.specs.Prelude.{◌≡◌, ◌<◌, ◌≤◌, ◌&&◌, true, length, is_some};
-ghost use Rattle.cut_order.specs.Order.{due_at, fresh, front, is_line_due, next_letter, order_of, with_letter, with_line};
+ghost use Rattle.std.specs.Prelude.{◌≡◌, ◌<◌, ◌≤◌, ◌&&◌, false, true, length, is_some};
+ghost use Rattle.cut_order.specs.Order.{due_at, fresh, front, is_dark, is_line_due, next_letter, order_of, with_letter, with_line};
 ghost use Rattle.storage_machine.specs.Cuts.{is_due, sent_so_far};
 ghost use Rattle.storage_machine.specs.Host.{to_do};
+ghost use Rattle.storage_machine.specs.declared.state.Event.TheVariants.{Due};
 ghost use Rattle.storage_machine.specs.declared.state.State.{State};
 ghost use Rattle.storage_model.specs.Faults.{AreRising};
+ghost use Rattle.storage_model.specs.declared.faults.Letter.{Letter};
+ghost use Rattle.trace_effects.specs.Effects.{after_cut, after_turn};
 
 use std::marker::Model;
 use storage_model::{Letter, LetterList, WordList};
@@ -55,7 +58,8 @@ impl Order {
 
     /// Uses the next letter, where one is left.
     pub fn use_letter(&mut self)
-        ensures { self.new ≡ with_letter self.old }
+        ensures letters { self.new ≡ with_letter self.old }
+        ensures turn { (s : State) (letter : Letter) → order_of s ≡ self.old → order_of (after_turn s letter) ≡ self.new }
     {
         if self.letters < self.turns.len() {
             self.letters += 1;
@@ -72,7 +76,8 @@ impl Order {
 
     /// Uses the line that is due, where one is.
     pub fn use_cut(&mut self, sent: u32)
-        ensures { self.new ≡ with_line self.old sent }
+        ensures lines { self.new ≡ with_line self.old sent }
+        ensures cut { (s : State) → order_of s ≡ self.old → sent_so_far s ≡ sent → s.event ≡ Due → is_dark s.owed ≡ false → order_of (after_cut s) ≡ self.new }
     {
         if has_come(self.cuts.as_slice(), self.used, sent) {
             self.used += 1;
