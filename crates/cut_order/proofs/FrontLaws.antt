@@ -1,6 +1,6 @@
 -- The used lines are the first ones: the line that is due is the one behind them, since numbers rise.
 use Rattle.std.proofs.Common.{◌≡◌, ◌∙◌, ℕ, zero, suc, ◌+◌, ◌-◌, ◌<◌, ◌≤◌, Bool, true, false, cond, not, ◌&&◌, List, [], ◌∷◌, ◌++◌, inl, inr, ◌⊎◌, length, set, get_or, arith, refl, ap, sym}
-use Rattle.std.specs.Prelude.{All, nat_le, Option, Some, None, is_some, replicate, zip}
+use Rattle.std.specs.Prelude.{All, nat_le, Some, None, is_some, replicate, zip}
 use Rattle.std.specs.List.{position_or_len}
 use Rattle.std.proofs.lemmas.Bool.{true≢false, cases_lt, le-leb, lt-leb, le-ltb, lt-ltb}
 use Rattle.storage_model.specs.Faults.{AreRising}

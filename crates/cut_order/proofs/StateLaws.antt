@@ -4,14 +4,14 @@ use Rattle.std.proofs.lemmas.Bool.{true≢false}
 use Rattle.std.specs.Prelude.{is_none, is_some, nat_lt, length}
 use Rattle.storage_machine.specs.Commands.{due, hit}
 use Rattle.storage_machine.specs.Cuts.{due_line, is_due, next_left, sent_so_far}
-use Rattle.storage_machine.specs.Host.{has_work, is_silent, recovery_step, recovery_step_at, to_do}
+use Rattle.storage_machine.specs.Host.{is_silent, recovery_step, recovery_step_at, to_do}
 use Rattle.storage_machine.specs.Jobs.{is_in_range, job_of}
 use Rattle.storage_machine.specs.declared.commands.DueCommand.{DueCommand}
 use Rattle.storage_machine.specs.declared.commands.DueCommand.TheVariants.{Idle, Address as AddressDue, Params as ParamsDue, Direct, Execute, Poll as PollDue}
 use Rattle.storage_machine.specs.declared.state.Event.{Event}
 use Rattle.storage_machine.specs.declared.state.Event.TheVariants.{Untold, Told, Due}
 use Rattle.storage_machine.specs.declared.state.Owed.{Owed}
-use Rattle.storage_machine.specs.declared.state.Owed.TheVariants.{Card as CardOwed, Nothing, Closed, Bus as BusOwed, Flash as FlashOwed, Answers, Sectors, Recover as RecoverOwed, Dark, Left as LeftOwed, End as Ended}
+use Rattle.storage_machine.specs.declared.state.Owed.TheVariants.{Nothing, Sectors, Dark}
 use Rattle.storage_machine.specs.declared.state.Recovery.{Recovery}
 use Rattle.storage_machine.specs.declared.state.Recovery.TheVariants.{Calm, Halted, Cleared, Discarded, Cleaned, Resumed}
 use Rattle.storage_machine.specs.declared.state.State.{State}
@@ -22,12 +22,12 @@ use Rattle.storage_model.specs.declared.faults.Letter.TheVariants.{Host as HostA
 use Rattle.storage_model.specs.declared.plan.Job.{Job}
 use Rattle.storage_model.specs.declared.plan.Plan.{Plan}
 use Rattle.storage_model.specs.declared.trace.End.{End}
-use Rattle.storage_model.specs.declared.trace.End.TheVariants.{Good, Fault as FaultEnd, Dead, Image}
+use Rattle.storage_model.specs.declared.trace.End.TheVariants.{Good}
 use Rattle.storage_model.specs.declared.trace.Item.{Item}
 use Rattle.storage_model.specs.declared.trace.Item.TheVariants.{Card, Issue, Params, Address, Poll, Phase, Discard, Bus, Flash, Recover, Irq, Done, Read, Sector, Status, Fault, Refused, Cut, Lost, On, Left, Turn, Off}
 use Rattle.storage_order.specs.Accept.{started}
 use Rattle.storage_order.specs.Events.{ended, ended_by, engine_step, passed}
-use Rattle.trace_effects.specs.Effects.{addressed, after_address, after_answer, after_bus, after_cut, after_discard, after_fault, after_flash, after_irq, after_issue, after_left, after_lost, after_off, after_on, after_params, after_poll, after_read, after_recover, after_sector, after_turn, begun, begun_by, cut_at, effect, first_cut, kept_at, left_from, left_mark, left_on, line_used, powered, shown_on}
+use Rattle.trace_effects.specs.Effects.{after_address, after_answer, after_bus, after_cut, after_discard, after_fault, after_flash, after_irq, after_issue, after_left, after_lost, after_off, after_on, after_params, after_poll, after_read, after_recover, after_sector, after_turn, begun, begun_by, cut_at, effect, first_cut, kept_at, left_from, left_mark, left_on, line_used, powered, shown_on}
 use Rattle.trace_effects.specs.Cuts.{epochs_with, used}
 use Rattle.trace_effects.specs.Phases.{after_blocks, after_done, after_keep, after_phase, done_with, read_sectors}
 use Rattle.trace_rules.specs.Lines.{data_on}

@@ -1,6 +1,7 @@
 -- The letters of a fault text, which tell whose event comes, and its `cut` lines: what of both a run has used.
-use Rattle.std.specs.Prelude.{ℕ, ◌+◌, ◌-◌, ◌≤◌, ◌&&◌, nat_le, min, Bool, true, false, not, Option, List, ◌++◌, is_some, length, position, replicate, slice_get, zip}
+use Rattle.std.specs.Prelude.{ℕ, ◌+◌, ◌-◌, ◌≤◌, ◌&&◌, nat_le, min, Bool, true, false, not, if◌then◌else◌, Option, List, ◌++◌, is_some, length, position, replicate, slice_get, zip}
 use Rattle.std.specs.List.{count_by}
+use Rattle.storage_machine.specs.Cuts.{is_due, sent_so_far}
 use Rattle.storage_machine.specs.declared.state.Event.{Event}
 use Rattle.storage_machine.specs.declared.state.Event.TheVariants.{Due}
 use Rattle.storage_machine.specs.declared.state.Owed.{Owed}
@@ -8,9 +9,11 @@ use Rattle.storage_machine.specs.declared.state.Owed.TheVariants.{Dark}
 use Rattle.storage_machine.specs.declared.state.State.{State}
 use Rattle.storage_model.specs.Faults.{AreRising}
 use Rattle.storage_model.specs.declared.faults.Letter.{Letter}
+use Rattle.storage_model.specs.declared.faults.Letter.TheVariants.{Cut as PowerActs}
 use Rattle.storage_model.specs.declared.trace.Item.{Item}
 use Rattle.storage_model.specs.declared.trace.Item.TheVariants.{Cut, Turn}
 use Rattle.trace_effects.specs.Cuts.{used as used_at}
+use Rattle.trace_rules.specs.Lines.{same_letter}
 
 -- `letters`: how many letters are used; `used`: of each `cut` line whether it is
 pub record OrderState : Type 0 where
@@ -62,6 +65,13 @@ cut_in event order sent = order
 abbrev pub is_dark : Owed → Bool
 is_dark (Dark cuts) = true
 is_dark owed = false
+
+-- an event of power uses the line that is due at its begin, and another event none
+abbrev pub uses_line : State → Letter → Bool
+uses_line s actor = same_letter actor PowerActs && is_due s
+
+abbrev pub order_after : State → Letter → OrderState
+order_after s actor = if uses_line s actor then with_line (order_of s) (sent_so_far s) else order_of s
 
 -- the lines that tell of a use
 abbrev pub tells_of_use : Item → Bool

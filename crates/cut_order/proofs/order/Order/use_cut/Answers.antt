@@ -1,7 +1,7 @@
 -- The due line is the one behind the used ones.
 use Rattle.std.proofs.Common.{rules, ◌≡◌, ◌∙◌, ◌<◌, length, ap, subst, sym}
 use Rattle.std.specs.Prelude.{is_some}
-use Rattle.cut_order.specs.Order.{due_at, front, is_line_due, with_line}
+use Rattle.cut_order.specs.Order.{due_at, front, with_line}
 use Rattle.cut_order.proofs.FrontLaws.{with_line_first}
 use Rattle.cut_order.proofs.StateLaws.{order_cut_due}
 use Rattle.cut_order.proofs.order.Order.use_cut.Goals as goal
