@@ -1,3 +1,4 @@
 pub mod FrontLaws
 pub mod StateLaws
 pub mod EventLaws
+pub mod LeftLaws
