@@ -1,5 +1,5 @@
 -- What is left: a use leaves one line or letter fewer, and the used lines stay the first ones.
-use Rattle.std.proofs.Common.{◌≡◌, ◌∙◌, ℕ, zero, suc, ◌+◌, ◌<◌, ◌≤◌, Bool, true, false, cond, not, ◌&&◌, ◌==◌, List, [], ◌∷◌, Some, None, inl, inr, ◌⊎◌, length, set, get_or, arith, refl, ap, sym}
+use Rattle.std.proofs.Common.{◌≡◌, ◌∙◌, ℕ, zero, suc, ◌+◌, ◌<◌, ◌≤◌, Bool, true, false, cond, not, ◌&&◌, ◌==◌, List, [], ◌∷◌, Some, None, inl, inr, ◌⊎◌, length, set, get_or, arith, refl, ap, subst, sym}
 use Rattle.std.specs.Prelude.{is_some, nat_le, zip}
 use Rattle.std.specs.List.{count_by, list_any, position_or_len}
 use Rattle.std.proofs.lemmas.Bool.{true≢false, and_from, and_parts, cases_lt, eqb-true, le-leb, lt-ltb, or_cases}
@@ -7,13 +7,16 @@ use Rattle.std.proofs.lemmas.List.Quantifiers.{position-Some}
 use Rattle.std.proofs.lemmas.List.Sums.{sum_by-set}
 use Rattle.std.proofs.lemmas.Option.{slice_get_within}
 use Rattle.storage_machine.specs.Commands.{next_number}
-use Rattle.storage_machine.specs.Cuts.{due_line, has_own_line}
+use Rattle.storage_machine.specs.Cuts.{due_line, has_own_line, sent_so_far}
 use Rattle.storage_machine.specs.declared.state.State.{State}
 use Rattle.storage_model.specs.Faults.{AreRising}
 use Rattle.storage_model.specs.declared.faults.Letter.{Letter}
+use Rattle.storage_model.specs.declared.trace.Item.{Item}
+use Rattle.storage_order.specs.Events.{Happens}
 use Rattle.trace_effects.specs.Cuts.{used}
-use Rattle.cut_order.specs.Order.{OrderState, due_at, front, letters_left, line_at, lines_left, next_letter, with_letter, with_line}
-use Rattle.cut_order.proofs.FrontLaws.{due_come, due_none, order_at, with_line_first}
+use Rattle.cut_order.specs.Order.{IsFront, OrderState, due_at, front, letters_left, line_at, lines_left, next_letter, order_of, uses_line, with_letter, with_line}
+use Rattle.cut_order.proofs.FrontLaws.{due_come, due_none, used_front}
+use Rattle.cut_order.proofs.EventLaws.{order_happens}
 
 -- a letter fewer
 pub letter_fewer : (order : OrderState) (letter : Letter) → next_letter order ≡ Some letter → letters_left (with_letter order) + 1 ≡ letters_left order
@@ -50,30 +53,35 @@ line_fewer order sent k at =
     let fresh = not_true _ (and_parts _ _ found.1).0 in
     ap (λ line. count_by not (used order.used line) + 1) at ∙ flag_fewer order.used k (record { within = flag.within; is = flag.is ∙ fresh })
 
--- where the first lines are used, it is so after a use too
-pub record StaysFront (turns : List Letter) (letters : ℕ) (cuts : List ℕ) (first sent : ℕ) : Type 0 where
-  pub next : ℕ
-  pub within : next ≤ length cuts
-  pub is : with_line (order_at turns letters cuts first) sent ≡ order_at turns letters cuts next
-
-pub stays_front : (turns : List Letter) (letters : ℕ) (cuts : List ℕ) (first sent : ℕ) → AreRising cuts → first ≤ length cuts → StaysFront turns letters cuts first sent
-stays_front turns letters cuts first sent rising within = by (cases_lt first (length cuts)) (cases_lt sent (get_or cuts first 0))
+-- the used lines stay the first ones, at each use
+pub front_used : (order : OrderState) (sent : ℕ) → AreRising order.cuts → IsFront order → IsFront (with_line order sent)
+front_used order sent rising x = by (cases_lt x.first (length order.cuts)) (cases_lt sent (get_or order.cuts x.first 0))
   where
-    none : (first < length cuts → sent < get_or cuts first 0) → StaysFront turns letters cuts first sent
+    none : (x.first < length order.cuts → sent < get_or order.cuts x.first 0) → IsFront (with_line order sent)
     none later = record {
-      next = first;
-      within = within;
-      is = ap (λ line. record (order_at turns letters cuts first) { used = used (front first (length cuts)) line }) (due_none cuts first sent 0 rising within later);
+      first = x.first;
+      within = x.within;
+      is = ap (λ line. used order.used line) (ap (λ flags. due_at order.cuts flags sent) x.is ∙ due_none order.cuts x.first sent 0 rising x.within later) ∙ x.is;
     }
 
-    by : (first < length cuts) ⊎ (length cuts ≤ first) → (sent < get_or cuts first 0) ⊎ (get_or cuts first 0 ≤ sent) → StaysFront turns letters cuts first sent
+    by : (x.first < length order.cuts) ⊎ (length order.cuts ≤ x.first) → (sent < get_or order.cuts x.first 0) ⊎ (get_or order.cuts x.first 0 ≤ sent) → IsFront (with_line order sent)
     by (inr past) come = none (λ below. absurd (omega arith))
     by (inl below) (inl later) = none (λ _. later)
     by (inl below) (inr come) = record {
-      next = first + 1;
+      first = x.first + 1;
       within = omega arith;
-      is = with_line_first turns letters cuts first sent rising below (ap is_some (due_come cuts first sent 0 below come));
+      is = ap (λ flags. used flags (due_at order.cuts flags sent)) x.is
+          ∙ (ap (λ line. used (front x.first (length order.cuts)) line) (due_come order.cuts x.first sent 0 below come) ∙ used_front x.first (length order.cuts) below);
     }
+
+front_either : (b : Bool) (x y : OrderState) → IsFront x → IsFront y → IsFront (cond b x y)
+front_either true x y left right = left
+front_either false x y left right = right
+
+-- and at each event, in whatever order the events come
+pub front_happens : (s : State) (actor : Letter) (items : List Item) (t : State) → AreRising s.faults.cuts → IsFront (order_of s) → Happens s actor items t → IsFront (order_of t)
+front_happens s actor items t rising x happens =
+    subst IsFront (sym (order_happens s actor items t happens)) (front_either (uses_line s actor) _ _ (front_used (order_of s) (sent_so_far s) rising x) x)
 
 -- where the number of a phase under way has a line of its own, a line is due
 module _ {X : Type 0} (p q : X → Bool) (weaker : (x : X) → p x ≡ true → q x ≡ true) where

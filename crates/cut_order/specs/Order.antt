@@ -1,5 +1,5 @@
 -- The letters of a fault text, which tell whose event comes, and its `cut` lines: what of both a run has used.
-use Rattle.std.specs.Prelude.{ℕ, ◌+◌, ◌-◌, ◌≤◌, ◌&&◌, nat_le, min, Bool, true, false, not, if◌then◌else◌, Option, List, ◌++◌, is_some, length, position, replicate, slice_get, zip}
+use Rattle.std.specs.Prelude.{◌≡◌, ℕ, ◌+◌, ◌-◌, ◌≤◌, ◌&&◌, nat_le, min, Bool, true, false, not, if◌then◌else◌, Option, List, ◌++◌, is_some, length, position, replicate, slice_get, zip}
 use Rattle.std.specs.List.{count_by}
 use Rattle.storage_machine.specs.Cuts.{is_due, sent_so_far}
 use Rattle.storage_machine.specs.declared.state.Event.{Event}
@@ -29,6 +29,12 @@ order_of s = record { turns = s.faults.turns; letters = s.letters; cuts = s.faul
 -- the first lines are used, and no others
 abbrev pub front : (first lines : ℕ) → List Bool
 front first lines = replicate first true ++ replicate (lines - first) false
+
+-- the used lines are the first ones
+pub record IsFront (order : OrderState) : Type 0 where
+  pub first : ℕ
+  pub within : first ≤ length order.cuts
+  pub is : order.used ≡ front first (length order.cuts)
 
 -- nothing is used
 abbrev pub fresh : List Letter → List ℕ → OrderState
