@@ -8,15 +8,20 @@ use Rattle.std.proofs.lemmas.List.Sums.{sum_by-set}
 use Rattle.std.proofs.lemmas.Option.{slice_get_within}
 use Rattle.storage_machine.specs.Commands.{next_number}
 use Rattle.storage_machine.specs.Cuts.{due_line, has_own_line, sent_so_far}
+use Rattle.storage_machine.specs.declared.state.Event.{Event}
+use Rattle.storage_machine.specs.declared.state.Event.TheVariants.{Due}
 use Rattle.storage_machine.specs.declared.state.State.{State}
 use Rattle.storage_model.specs.Faults.{AreRising}
 use Rattle.storage_model.specs.declared.faults.Letter.{Letter}
 use Rattle.storage_model.specs.declared.trace.Item.{Item}
+use Rattle.storage_model.specs.declared.trace.Item.TheVariants.{Cut, Turn}
 use Rattle.storage_order.specs.Events.{Happens}
 use Rattle.trace_effects.specs.Cuts.{used}
-use Rattle.cut_order.specs.Order.{IsFront, OrderState, due_at, front, letters_left, line_at, lines_left, next_letter, order_of, uses_line, with_letter, with_line}
+use Rattle.trace_effects.specs.Effects.{after_cut, effect}
+use Rattle.cut_order.specs.Order.{IsFront, OrderState, cut_in, due_at, front, is_dark, letters_left, line_at, lines_left, next_letter, order_of, uses_line, with_letter, with_line}
 use Rattle.cut_order.proofs.FrontLaws.{due_come, due_none, used_front}
 use Rattle.cut_order.proofs.EventLaws.{order_happens}
+use Rattle.cut_order.proofs.StateLaws.{order_cut, order_dark, order_line, order_turn}
 
 -- a letter fewer
 pub letter_fewer : (order : OrderState) (letter : Letter) → next_letter order ≡ Some letter → letters_left (with_letter order) + 1 ≡ letters_left order
@@ -82,6 +87,21 @@ front_either false x y left right = right
 pub front_happens : (s : State) (actor : Letter) (items : List Item) (t : State) → AreRising s.faults.cuts → IsFront (order_of s) → Happens s actor items t → IsFront (order_of t)
 front_happens s actor items t rising x happens =
     subst IsFront (sym (order_happens s actor items t happens)) (front_either (uses_line s actor) _ _ (front_used (order_of s) (sent_so_far s) rising x) x)
+
+-- and at each line, also of a trace that is only judged
+front_cut : (event : Event) (order : OrderState) (sent : ℕ) → AreRising order.cuts → IsFront order → IsFront (cut_in event order sent)
+front_cut Due order sent rising x = front_used order sent rising x
+front_cut event order sent rising x = x
+
+front_dark : (s : State) (dark : Bool) → is_dark s.owed ≡ dark → AreRising s.faults.cuts → IsFront (order_of s) → IsFront (order_of (after_cut s))
+front_dark s true dark rising x = subst IsFront (sym (order_dark s dark)) x
+front_dark s false dark rising x = subst IsFront (sym (order_cut s dark)) (front_cut s.event (order_of s) (sent_so_far s) rising x)
+
+pub front_line : (s : State) (item : Item) → AreRising s.faults.cuts → IsFront (order_of s) → IsFront (order_of (effect s item))
+unfolding effect
+front_line s (Turn letter) rising x = subst IsFront (sym (order_turn s letter)) (record { first = x.first; within = x.within; is = x.is })
+front_line s Cut rising x = front_dark s (is_dark s.owed) refl rising x
+front_line s item rising x = subst IsFront (sym (order_line s item refl)) x
 
 -- where the number of a phase under way has a line of its own, a line is due
 module _ {X : Type 0} (p q : X → Bool) (weaker : (x : X) → p x ≡ true → q x ≡ true) where

@@ -22,7 +22,7 @@ pub record OrderState : Type 0 where
   pub cuts : List ℕ
   pub used : List Bool
 
--- the storage machine's
+-- that of a state of the storage machine
 abbrev pub order_of : State → OrderState
 order_of s = record { turns = s.faults.turns; letters = s.letters; cuts = s.faults.cuts; used = s.cuts }
 
