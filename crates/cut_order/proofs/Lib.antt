@@ -1,0 +1,4 @@
+pub mod FrontLaws
+pub mod StateLaws
+pub mod EventLaws
+pub mod LeftLaws
