@@ -3,10 +3,12 @@ ghost use Rattle.std.specs.Prelude.{◌≡◌};
 ghost use Rattle.card_link.specs.Behind.{Fits, behind, link_state};
 ghost use Rattle.card_link.specs.Made.{CardMade};
 ghost use Rattle.drv_core.specs.Event.{Event, step_of};
+ghost use Rattle.drv_core.specs.declared.act.Act.TheVariants.{Step as Stepped};
 ghost use Rattle.drv_core.specs.State.{layout_of};
 ghost use Rattle.drv_jobs.specs.Sound.{IsSound};
 ghost use Rattle.drv_recover.specs.Ends.{EventEnds};
-ghost use Rattle.drv_recover.specs.Recovery.{IsAt};
+ghost use Rattle.drv_recover.specs.Recovery.{IsAt, IsOver};
+ghost use Rattle.drv_recover.specs.declared.recovery.Step.TheVariants.{Over};
 ghost use Rattle.drv_ring.specs.Layout.{HasLayout};
 
 use array_edge::Array;
@@ -36,6 +38,7 @@ pub fn driver_event<A: Array>(
     ensures sound { IsSound driver.new.requests }
     ensures layout { HasLayout mem.new (layout_of driver.new.requests.plan) }
     ensures at { IsAt driver.old.recovery regs.old → IsAt driver.new.recovery regs.new }
+    ensures over { IsAt driver.old.recovery regs.old → result ≡ Stepped Over → IsOver regs.new }
 {
     let mut link = CardLink {
         card,
@@ -62,6 +65,7 @@ fn driver_over<A: Array>(
     ensures sound { IsSound driver.new.requests }
     ensures layout { HasLayout mem.new (layout_of driver.new.requests.plan) }
     ensures at { IsAt driver.old.recovery regs.old → IsAt driver.new.recovery regs.new }
+    ensures over { IsAt driver.old.recovery regs.old → result ≡ Stepped Over → IsOver regs.new }
     ensures card { link.new.card.ghost_name ≡ link.old.card.ghost_name }
     ensures array { link.new.array.ghost_name ≡ link.old.array.ghost_name }
     ensures script { link.new.link.ghost_name ≡ link.old.link.ghost_name }

@@ -1,11 +1,15 @@
 // An event of the engine over the bus to the card.
-ghost use Rattle.std.specs.Prelude.{◌≡◌};
+ghost use Rattle.std.specs.Prelude.{◌≡◌, ◌↔◌, ◌⊎◌, [], true};
 ghost use Rattle.card_link.specs.Behind.{Fits, behind, link_state};
 ghost use Rattle.card_link.specs.Made.{CardMade};
 ghost use Rattle.cq_engine.specs.Ends.{EventEnds};
 ghost use Rattle.cq_engine.specs.Event.{Event};
-ghost use Rattle.cq_engine.specs.Holds.{Holds, LieIn};
+ghost use Rattle.cq_engine.specs.Holds.{AreCounted, Holds, LieIn};
 ghost use Rattle.cq_engine.specs.Outcome.{stop_of};
+ghost use Rattle.cq_engine.specs.Standings.{MovesBy, OneOpen, completed_by, set_up_of};
+ghost use Rattle.cq_regs.specs.Slots.{IsRing};
+ghost use Rattle.cq_schedule.specs.Meaning.{rests};
+ghost use Rattle.piece_data.specs.Laws.{HasSameSpace};
 
 use array_edge::Array;
 use bus_link::ScriptLink;
@@ -31,6 +35,14 @@ pub fn engine_event<A: Array>(
     ensures fits { Fits (behind card.new (A.state array.new) script.new) }
     ensures holds { Holds engine.new regs.new }
     ensures lie { LieIn mem.new engine.new.held }
+    ensures space { HasSameSpace mem.old mem.new }
+    ensures idle { (result ≡ Did.Idle) ↔ ((rests regs.old ≡ true) ⊎ (regs.old.ring ≡ [])) }
+    ensures ring { IsRing regs.new.ring }
+    ensures slots { MovesBy result regs.old regs.new }
+    ensures done { regs.new.completed ≡ completed_by result regs.old.completed }
+    ensures set_up { set_up_of regs.new ≡ set_up_of regs.old }
+    ensures counts { AreCounted engine.old.held → AreCounted engine.new.held }
+    ensures one { OneOpen regs.old.ring → OneOpen regs.new.ring }
     ensures ends { EventEnds (link_state (behind card.old (A.state array.old) script.old)) (link_state (behind card.new (A.state array.new) script.new)) (stop_of result) }
 {
     let mut link = CardLink {
@@ -55,6 +67,14 @@ fn engine_over<A: Array>(
     ensures fits { Fits (behind link.new.card.now (A.state link.new.array.now) link.new.link.now) }
     ensures holds { Holds engine.new regs.new }
     ensures lie { LieIn mem.new engine.new.held }
+    ensures space { HasSameSpace mem.old mem.new }
+    ensures idle { (result ≡ Did.Idle) ↔ ((rests regs.old ≡ true) ⊎ (regs.old.ring ≡ [])) }
+    ensures ring { IsRing regs.new.ring }
+    ensures slots { MovesBy result regs.old regs.new }
+    ensures done { regs.new.completed ≡ completed_by result regs.old.completed }
+    ensures set_up { set_up_of regs.new ≡ set_up_of regs.old }
+    ensures counts { AreCounted engine.old.held → AreCounted engine.new.held }
+    ensures one { OneOpen regs.old.ring → OneOpen regs.new.ring }
     ensures ends { EventEnds (link_state (behind link.old.card.now (A.state link.old.array.now) link.old.link.now)) (link_state (behind link.new.card.now (A.state link.new.array.now) link.new.link.now)) (stop_of result) }
     ensures card { link.new.card.ghost_name ≡ link.old.card.ghost_name }
     ensures array { link.new.array.ghost_name ≡ link.old.array.ghost_name }
