@@ -178,7 +178,7 @@ end_card : (b : State) → b.event ≡ Told Card → end_rule b ≡ None
 unfolding end_rule
 end_card b e = ap (rule_of_end b) e
 
-rested_card : (b : State) → b.event ≡ Told Card → b.owed ≡ Nothing → rested b ≡ unsaid b
+pub rested_card : (b : State) → b.event ≡ Told Card → b.owed ≡ Nothing → rested b ≡ unsaid b
 rested_card b e owed = ap {A = State} (λ x. record x { owed = Nothing }) (ended_card b e) ∙ ap (λ o. record b { event = Untold; owed = o }) (sym owed)
 
 own_next : (nothing next : Bool) → nothing ≡ true → next ≡ true → not (not nothing || (true && not next)) ≡ true
@@ -193,7 +193,7 @@ card_starts b n id count kept x =
     and_from (is_free b.owed) (starts_at b b.event item) (ap is_free x.owed)
     (ap (λ event. starts_at b event item) x.event ∙ own_next (is_nothing b.owed) (not (letters_left b || has_work b)) (ap is_nothing x.owed) (ap not (or_from (letters_left b) (has_work b) x.letters x.work)))
 
-work_event : (b : State) (event : Event) → has_work (record b { event = event }) ≡ has_work b
+pub work_event : (b : State) (event : Event) → has_work (record b { event = event }) ≡ has_work b
 unfolding has_work next_issue
 work_event b event = refl
 

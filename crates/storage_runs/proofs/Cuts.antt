@@ -33,7 +33,7 @@ cut_rule_by s Closed at free = rw at refl
 cut_rule_by s owed at free = absurd (cc)
 
 -- a cut may come where nothing is owed
-cut_rule : (s : State) → is_free s.owed ≡ true → line_rule s Cut ≡ None
+pub cut_rule : (s : State) → is_free s.owed ≡ true → line_rule s Cut ≡ None
 cut_rule s free = cut_rule_by s s.owed refl free
 
 first_cut_by : (s : State) (owed : Owed) → is_free owed ≡ true → cut_at s owed ≡ first_cut s
@@ -41,7 +41,7 @@ first_cut_by s Nothing free = refl
 first_cut_by s Closed free = refl
 first_cut_by s owed free = absurd (cc)
 
-cut_first : (s : State) → is_free s.owed ≡ true → effect s Cut ≡ first_cut s
+pub cut_first : (s : State) → is_free s.owed ≡ true → effect s Cut ≡ first_cut s
 unfolding effect after_cut
 cut_first s free = first_cut_by s s.owed free
 
@@ -52,7 +52,7 @@ plainly_cut s = over (record s { worked = to_do s; spent = 0; notice = false; co
 plain_untold : (s : State) → s.event ≡ Untold → first_cut s ≡ plainly_cut s
 plain_untold s e = ap (λ event. over (record s { cuts = used s.cuts (line_used s event); worked = to_do s; spent = 0; notice = false; count = 0 }) (Dark 0)) e
 
-plain_told : (s : State) → first_cut (record s { event = Told Engine }) ≡ plainly_cut s
+pub plain_told : (s : State) → first_cut (record s { event = Told Engine }) ≡ plainly_cut s
 unfolding to_do
 plain_told s = refl
 
@@ -60,7 +60,7 @@ plain_owed : (s : State) (owed : Owed) → plainly_cut (record s { owed = owed }
 unfolding to_do
 plain_owed s owed = refl
 
-plain_tick : (s : State) → plainly_cut (record s { notice = true; count = 0 }) ≡ plainly_cut s
+pub plain_tick : (s : State) → plainly_cut (record s { notice = true; count = 0 }) ≡ plainly_cut s
 unfolding to_do
 plain_tick s = refl
 

@@ -32,7 +32,7 @@ use Rattle.trace_effects.specs.Phases.{event_with}
 use Rattle.trace_rules.specs.Steps.{earlier}
 
 -- an event that has begun in b, whose first line is taken
-begins_taken : (m b last : State) (item : Item) (items : List Item) → Begins b item items last → StaysSo b (item ∷ items) → First m b item → IsOpened m (item ∷ items)
+pub begins_taken : (m b last : State) (item : Item) (items : List Item) → Begins b item items last → StaysSo b (item ∷ items) → First m b item → IsOpened m (item ∷ items)
 begins_taken m b last item items begins so first = record {
   after = last;
   taken = λ more.
@@ -104,13 +104,13 @@ shown_open_at m last actor items lines st is due some at goes yields so =
     let inner = goes_open b last items actor (some_of_card r actor is some) (begun_shown r actor is due) goes yields so in
     rw (at, is) (record { after = inner.after; taken = λ more. turn_taken m r actor st (shown_letter r actor is) due is (items ++ more) ∙ inner.taken more })
 
-shown_open : (m s last : State) (actor : Letter) (items lines : List Item) → StandsAt m s → is_shown s actor ≡ true → is_due s ≡ false → to_do s ≡ true → lines ≡ shown s actor items
+pub shown_open : (m s last : State) (actor : Letter) (items lines : List Item) → StandsAt m s → is_shown s actor ≡ true → is_due s ≡ false → to_do s ≡ true → lines ≡ shown s actor items
     → Goes (begun_next s actor) items last → Yields (begun_next s actor) items → StaysSo (begun_next s actor) items → IsOpened m lines
 shown_open m s last actor items lines st is due some at goes yields so =
     let same = unseen_letter st.count (rested m) s actor (rests m) st.unseen (shown_letter s actor is) in
     shown_open_at m last actor items lines (rw same at st) (rw same at is) (rw same at due) (rw same at some) (rw same at at) (rw same at goes) (rw same at yields) (rw same at so)
 
-opened_at : (m : State) (lines items : List Item) → lines ≡ items → IsOpened m items → IsOpened m lines
+pub opened_at : (m : State) (lines items : List Item) → lines ≡ items → IsOpened m items → IsOpened m lines
 opened_at m lines items at opened = rw at opened
 
 untold_open : (m s b last : State) (lines items : List Item) (actor : Letter) → Between m s → actor ≡ chosen s → is_shown s actor ≡ false → lines ≡ items → b ≡ begun_by s actor → Goes b items last → Yields b items → StaysSo b items → IsOpened m lines

@@ -134,7 +134,7 @@ phase_forced r n id count kept letters late uncut late_q =
     ∙ ap (λ b. cond b (record q { event = Due }) q) (and_left (is_due q) true late_q))
 
 -- where nothing is due, nothing is executed
-idle_phase : (s : State) (n id count : ℕ) (kept : Bool) → due s ≡ Idle → holds s (Phase n id count kept) ≡ true → false ≡ true
+pub idle_phase : (s : State) (n id count : ℕ) (kept : Bool) → due s ≡ Idle → holds s (Phase n id count kept) ≡ true → false ≡ true
 unfolding holds phase_holds
 idle_phase s n id count kept idle is = sym (ap (is_phase_of s id count kept) idle) ∙ (and_parts (n == next_number s) (is_phase_of s id count kept (due s)) is).1
 

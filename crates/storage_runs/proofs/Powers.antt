@@ -116,11 +116,11 @@ busied_state m s n id count kept st e x letters late rest due_s fits yields =
     let at = x.state in
     rw at (busied_due m (recovery_steps (rested m)) x.spent x.tag n id count kept (rw at at st) e refl letters late x.execute x.may x.work x.late (rw at at rest) (rw at at due_s) (rw at at fits) (rw at at yields))
 
-due_ticked : (q : State) → is_due (record q { notice = true; count = 0 }) ≡ is_due q
+pub due_ticked : (q : State) → is_due (record q { notice = true; count = 0 }) ≡ is_due q
 unfolding to_do due_line
 due_ticked q = refl
 
-not_ticked : (q s : State) → IsTicked q s → is_due s ≡ true → false ≡ true
+pub not_ticked : (q s : State) → IsTicked q s → is_due s ≡ true → false ≡ true
 not_ticked q s x late = sym x.late ∙ (sym (due_ticked q) ∙ (ap is_due (sym x.state) ∙ late))
 
 late_letters : (m s : State) → (s ≡ rested m) ⊎ (next_letter (rested m) ≡ None) → is_due (rested m) ≡ false → is_due s ≡ true → letters_left (rested m) ≡ false

@@ -69,7 +69,7 @@ letter_owed s true = refl
 letter_owed s false = refl
 
 -- behind the end nothing comes
-none_comes : (s t : State) (lines : List Item) → s.owed ≡ Ended → Comes s lines t → false ≡ true
+pub none_comes : (s t : State) (lines : List Item) → s.owed ≡ Ended → Comes s lines t → false ≡ true
 none_comes s t lines ended comes = sym (ap is_free (letter_owed s (is_shown s (chosen s)) ∙ ended)) ∙ comes.shows.happens.free
 
 run_ended : (m u t : State) (lines : List Item) (events : List (List Item)) → (closes : Closes m u lines) → HasEnded closes.takes.after u → Run u events t → Closes m t (lines ++ joined events)

@@ -42,7 +42,7 @@ between m s st e =
       kept = kept;
     }
 
-free_of : (busy : Bool) → not (busy && true) ≡ true → busy ≡ false
+pub free_of : (busy : Bool) → not (busy && true) ≡ true → busy ≡ false
 free_of true e = absurd (cc)
 free_of false e = refl
 
@@ -72,10 +72,10 @@ pub record Opens (b : State) (item : Item) : Type 0 where
   pub phase : shows_phase b item ≡ true
   pub yields : yields_to_cut b item ≡ true
 
-nothing_of : (s : State) (event : Event) (line rest cut : Bool) → s.owed ≡ Nothing → cond (is_nothing s.owed) (line && rest) cut ≡ true → line ≡ true
+pub nothing_of : (s : State) (event : Event) (line rest cut : Bool) → s.owed ≡ Nothing → cond (is_nothing s.owed) (line && rest) cut ≡ true → line ≡ true
 nothing_of s event line rest cut owed stands = (and_parts line rest (sym (ap (λ owed. cond (is_nothing owed) (line && rest) cut) owed) ∙ stands)).0
 
-nothing_or : (s : State) (line : Bool) → s.owed ≡ Nothing → (not (is_nothing s.owed) || line) ≡ true → line ≡ true
+pub nothing_or : (s : State) (line : Bool) → s.owed ≡ Nothing → (not (is_nothing s.owed) || line) ≡ true → line ≡ true
 nothing_or s line owed stands = sym (ap (λ owed. not (is_nothing owed) || line) owed) ∙ stands
 
 due_opens : (m s : State) (item : Item) → Between m s → is_due s ≡ true → Opens (record s { event = Due }) item → First m (record s { event = Due }) item
@@ -100,7 +100,7 @@ engine_opens m s item x none work due opens =
     engine_line m s item x (none_before m s x none) (no_letters s none) (not_late m s (is_due (rested m)) refl x due) work due opens.fits opens.phase opens.yields
     (nothing_or s (is_line_of Engine (is_calm s.recovery) item) x.rest.owed opens.fits.stands)
 
-host_begun : (s : State) (silent : Bool) → is_silent s.recovery ≡ silent → has_work s ≡ true → is_untold (begun_by s Host).event ≡ false → (is_silent s.recovery ≡ false) × (begun_by s Host ≡ record s { event = Told Host })
+pub host_begun : (s : State) (silent : Bool) → is_silent s.recovery ≡ silent → has_work s ≡ true → is_untold (begun_by s Host).event ≡ false → (is_silent s.recovery ≡ false) × (begun_by s Host ≡ record s { event = Told Host })
 host_begun s true at work told = absurd (false≢true (sym told ∙ ap (λ silent. is_untold (cond silent (record (recovery_step s) { event = Untold }) (record s { event = cond (has_work s) (Told Host) Untold })).event) at))
 host_begun s false at work told = (
   at,
@@ -108,7 +108,7 @@ host_begun s false at work told = (
       ∙ ap (λ busy. record s { event = cond busy (Told Host) Untold }) work,
 )
 
-opens_at : (m b c : State) (item : Item) → b ≡ c → First m c item → First m b item
+pub opens_at : (m b c : State) (item : Item) → b ≡ c → First m c item → First m b item
 opens_at m b c item at first = rw at first
 
 host_by : (m s : State) (item : Item) → Between m s → next_letter s ≡ None → has_work s ≡ true → is_due s ≡ false → Opens (begun_by s Host) item → First m (begun_by s Host) item
@@ -120,7 +120,7 @@ next_by : (m s : State) (item : Item) (work : Bool) (actor : Letter) → has_wor
 next_by m s item true actor work is x none due opens = rw is (host_by m s item x none work due (rw is at opens))
 next_by m s item false actor work is x none due opens = rw is (engine_opens m s item x none work due (rw is at opens))
 
-due_begun : (s : State) → is_due s ≡ true → begun_by s PowerActs ≡ record s { event = Due }
+pub due_begun : (s : State) → is_due s ≡ true → begun_by s PowerActs ≡ record s { event = Due }
 due_begun s due = ap (λ late. record s { event = cond late Due (Told PowerActs) }) due
 
 due_by : (m s : State) (item : Item) → Between m s → is_due s ≡ true → Opens (begun_by s PowerActs) item → First m (begun_by s PowerActs) item
@@ -133,7 +133,7 @@ chosen_first m s item false (Some letter) actor due at is unshown x opens = absu
 chosen_first m s item false None actor due at is unshown x opens = next_by m s item (has_work s) actor refl is x at due opens
 
 -- an event that prints nothing
-unseen_more : (k : ℕ) (r s t : State) → Unseen k r s → Comes s [] t → Unseen (suc k) r t
+pub unseen_more : (k : ℕ) (r s t : State) → Unseen k r s → Comes s [] t → Unseen (suc k) r t
 unseen_more zero r s t un comes = (t, rw un at comes, refl)
 unseen_more (suc k) r s t un comes = (un.0, un.1, unseen_more k un.0 s t un.2 comes)
 

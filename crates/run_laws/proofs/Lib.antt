@@ -1,0 +1,5 @@
+pub mod Idles
+pub mod Still
+pub mod Engines
+pub mod Firsts
+pub mod Events
