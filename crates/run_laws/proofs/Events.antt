@@ -2,7 +2,9 @@
 use Rattle.std.proofs.Common.{inl, inr, ◌≡◌, ◌∙◌, ◌⊎◌, ◌≤◌, suc, Bool, true, false, cond, List, [], ◌∷◌, ◌++◌, append_assoc, append-nil, refl, ap, sym}
 use Rattle.std.proofs.lemmas.Bool.{false≢true}
 use Rattle.run_laws.proofs.Firsts.{next_first}
+use Rattle.run_laws.proofs.Leads.{Leads, leads_closes, shown_leads}
 use Rattle.run_laws.specs.Laws.{IsFrontTaken, IsRunTaken, IsTaken}
+use Rattle.run_laws.specs.Whole.{last_of, tells}
 use Rattle.storage_machine.specs.Host.{to_do}
 use Rattle.storage_machine.specs.declared.state.Owed.TheVariants.{Nothing}
 use Rattle.storage_machine.specs.declared.state.State.{State}
@@ -14,7 +16,7 @@ use Rattle.storage_order.specs.Events.{Goes, Makes}
 use Rattle.storage_runs.proofs.Ends.{lasts_taken}
 use Rattle.storage_runs.proofs.Fronts.{begins_taken, opened_at, shown_open}
 use Rattle.storage_runs.proofs.Hushes.{begun_unshown, rests, rests_kept, unseen_kept}
-use Rattle.storage_runs.proofs.Shown.{begun_by_plan, ended_plan, shown_taken}
+use Rattle.storage_runs.proofs.Shown.{begun_by_plan, ended_plan}
 use Rattle.storage_runs.proofs.Taken.{none_comes}
 use Rattle.storage_runs.proofs.Told.{shown_due}
 use Rattle.storage_runs.proofs.Untold.{unseen_more}
@@ -23,59 +25,65 @@ use Rattle.storage_runs.specs.Runs.{Comes, Run, StaysSo, Yields, begun_next, cho
 use Rattle.trace_effects.specs.Effects.{begun_by}
 
 -- an event that prints nothing
-quiet : (m s t : State) (lines : List Item) → StandsAt m s → Comes s lines t → lines ≡ [] → Takes m t lines
+quiet : (m s t : State) (lines : List Item) → StandsAt m s → Comes s lines t → lines ≡ [] → Leads m t lines
 quiet m s t lines st comes none = record {
-  after = m;
-  stands = inl (record {
-    free = st.free;
-    whole = st.whole;
-    ends = st.ends;
-    calm = st.calm;
-    depth = st.depth;
-    count = suc st.count;
-    unseen = unseen_more st.count (rested m) s t st.unseen (rw none at comes);
-  });
-  taken = λ more. ap (λ lines. accept_from (lines ++ more) m) none;
+  takes = record {
+    after = m;
+    stands = inl (record {
+      free = st.free;
+      whole = st.whole;
+      ends = st.ends;
+      calm = st.calm;
+      depth = st.depth;
+      count = suc st.count;
+      unseen = unseen_more st.count (rested m) s t st.unseen (rw none at comes);
+    });
+    taken = λ more. ap (λ lines. accept_from (lines ++ more) m) none;
+  };
+  told = λ before m_told told. m_told (ap (λ lines. tells (last_of before lines)) (sym none) ∙ told);
 }
 
-taken_at : (m t : State) (lines items : List Item) → lines ≡ items → Takes m t items → Takes m t lines
-taken_at m t lines items at takes = rw at takes
+leads_at : (m t : State) (lines items : List Item) → lines ≡ items → Leads m t items → Leads m t lines
+leads_at m t lines items at leads = rw at leads
 
 depth_at : (m s : State) (actor : Letter) → StandsAt m s → 1 ≤ (begun_by s actor).plan.depth
 depth_at m s actor st =
     let kept = unseen_kept st.count (rested m) s (rests m) st.unseen in
     rw (ap (λ plan. plan.depth) (begun_by_plan s actor ∙ (kept.plan ∙ ended_plan m))) st.depth
 
-items_taken : (m s t b : State) (lines items : List Item) → StandsAt m s → Comes s lines t → is_shown s (chosen s) ≡ false → lines ≡ items → b ≡ begun_by s (chosen s) → Makes b items t → Yields b items → StaysSo b items → Takes m t lines
+items_taken : (m s t b : State) (lines items : List Item) → StandsAt m s → Comes s lines t → is_shown s (chosen s) ≡ false → lines ≡ items → b ≡ begun_by s (chosen s) → Makes b items t → Yields b items → StaysSo b items → Leads m t lines
 items_taken m s t b lines [] st comes unshown at begun makes yields so = quiet m s t lines st comes at
 items_taken m s t b lines (item ∷ items) st comes unshown at begun makes yields so =
     let lasts = rw begun at makes in
     let begins = lasts.begins in
-    taken_at m t lines (item ∷ items) at (lasts_taken m (begun_by s (chosen s)) t item items lasts (rw begun at so)
+    leads_at m t lines (item ∷ items) at (leads_closes m t (item ∷ items) (lasts_taken m (begun_by s (chosen s)) t item items lasts (rw begun at so)
     (next_first m s item st comes.some unshown (record {
       told = begins.told;
       fits = begins.first;
       phase = begins.phase;
       yields = rw begun at yields;
     }))
-    (depth_at m s (chosen s) st)).takes
+    (depth_at m s (chosen s) st)))
 
 nothing_owed : (m s : State) → StandsAt m s → s.owed ≡ Nothing
 nothing_owed m s st = (rests_kept (rested m) s (rests m) (unseen_kept st.count (rested m) s (rests m) st.unseen)).owed
 
-untold_taken : (m s t : State) (lines : List Item) → StandsAt m s → Comes s lines t → is_shown s (chosen s) ≡ false → Takes m t lines
-untold_taken m s t lines st comes unshown =
+untold_leads : (m s t : State) (lines : List Item) → StandsAt m s → Comes s lines t → is_shown s (chosen s) ≡ false → Leads m t lines
+untold_leads m s t lines st comes unshown =
     let actor = chosen s in
     let items = comes.items in
     items_taken m s t (begun_next s actor) lines items st comes unshown (comes.shows.printed ∙ ap (λ is. cond is (Turn actor ∷ items) items) unshown) (begun_unshown s actor (nothing_owed m s st) unshown)
     comes.shows.happens.makes comes.cut comes.kept
 
-taken_by : (m s t : State) (lines : List Item) (is : Bool) → is_shown s (chosen s) ≡ is → StandsAt m s → Comes s lines t → Takes m t lines
-taken_by m s t lines true is st comes = shown_taken m s t (chosen s) comes.items lines st is (shown_due s is) comes.some comes.shows.printed comes.shows.happens.makes comes.cut comes.kept
-taken_by m s t lines false is st comes = untold_taken m s t lines st comes is
+leads_by : (m s t : State) (lines : List Item) (is : Bool) → is_shown s (chosen s) ≡ is → StandsAt m s → Comes s lines t → Leads m t lines
+leads_by m s t lines true is st comes = shown_leads m s t (chosen s) comes.items lines st is (shown_due s is) comes.some comes.shows.printed comes.shows.happens.makes comes.cut comes.kept
+leads_by m s t lines false is st comes = untold_leads m s t lines st comes is
+
+pub event_leads : (m s t : State) (lines : List Item) → StandsAt m s → Comes s lines t → Leads m t lines
+event_leads m s t lines st comes = leads_by m s t lines (is_shown s (chosen s)) refl st comes
 
 pub is_taken : (m s t : State) (lines : List Item) → IsTaken m s t lines
-is_taken m s t lines st comes = taken_by m s t lines (is_shown s (chosen s)) refl st comes
+is_taken m s t lines st comes = (event_leads m s t lines st comes).takes
 
 -- a front of an event that no letter tells
 untold_open : (m s b last : State) (lines items : List Item) → StandsAt m s → to_do s ≡ true → is_shown s (chosen s) ≡ false → lines ≡ items → b ≡ begun_by s (chosen s) → Goes b items last → Yields b items → StaysSo b items → IsOpened m lines

@@ -13,10 +13,10 @@ use Rattle.storage_model.specs.declared.faults.Letter.{Letter}
 use Rattle.storage_model.specs.declared.faults.Letter.TheVariants.{Host, Engine, Card, Cut as PowerActs}
 use Rattle.storage_model.specs.declared.trace.Item.{Item}
 use Rattle.storage_model.specs.declared.trace.Item.TheVariants.{Params, Address, Poll, Phase, Bus, Cut}
-use Rattle.storage_order.specs.Events.{Fits, end_rule, ended, ended_by, is_untold, rule_of_end, shows_phase}
+use Rattle.storage_order.specs.Events.{Fits, end_rule, ended, ended_by, is_untold, shows_phase}
 use Rattle.storage_order.specs.Order.{forced, left_behind, order_rule, settled, start_rule, starts}
 use Rattle.run_laws.proofs.Engines.{engine_command, engine_cut, engine_late, engine_passed, engine_phase}
-use Rattle.run_laws.proofs.Still.{IsItsLine, Still, card_busied, card_cut, card_due, card_phase, its_line, not_busy}
+use Rattle.run_laws.proofs.Still.{IsItsLine, Still, card_busied, card_cut, card_due, card_phase, host_told, its_line, not_busy, power_told}
 use Rattle.storage_runs.proofs.Ends.{First}
 use Rattle.storage_runs.proofs.Engines.{command_line, untold_starts}
 use Rattle.storage_runs.proofs.Hosts.{not_told}
@@ -145,19 +145,6 @@ late_card : (m s : State) (item : Item) → Still m s Card → is_due s ≡ true
 late_card m s (Phase n id count kept) x late phase line its = card_due m s n id count kept x late its
 late_card m s Cut x late phase line its = not_busy s.busy phase (ap (λ y. y.busy) (card_busied m s x late).state)
 late_card m s item x late phase line its = absurd (cc)
-
--- the letter that was told is the engine's or the card's
-host_told : (m : State) → end_rule m ≡ None → m.event ≡ Told Host → false ≡ true
-unfolding end_rule
-host_told m end e = absurd (cc (rw e at end))
-
-none_to_do : (some : Bool) → cond {A = Option ℕ} (not some) None (Some 12) ≡ None → some ≡ true → false ≡ true
-none_to_do true end e = absurd (cc)
-none_to_do false end e = e
-
-power_told : (m : State) → end_rule m ≡ None → m.event ≡ Told PowerActs → to_do m ≡ true → false ≡ true
-unfolding end_rule
-power_told m end e some = none_to_do (to_do m) (sym (ap (rule_of_end m) e) ∙ end) some
 
 to_do_power : (m : State) → m.event ≡ Told PowerActs → to_do (rested m) ≡ to_do m
 unfolding ended to_do

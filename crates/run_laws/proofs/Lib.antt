@@ -2,4 +2,8 @@ pub mod Idles
 pub mod Still
 pub mod Engines
 pub mod Firsts
+pub mod Leads
 pub mod Events
+pub mod Drops
+pub mod Courses
+pub mod Whole

@@ -1,5 +1,5 @@
 -- An event that was told printed nothing more than its letter, and the acceptance hasn't seen its end: the next event, that no letter tells, is taken still.
-use Rattle.std.proofs.Common.{inl, inr, ◌≡◌, ◌∙◌, ◌⊎◌, ◌≤◌, ℕ, Bool, true, false, None, cond, ◌&&◌, ◌||◌, not, refl, ap, sym}
+use Rattle.std.proofs.Common.{inl, inr, ◌≡◌, ◌∙◌, ◌⊎◌, ◌≤◌, ℕ, Bool, true, false, Option, Some, None, cond, ◌&&◌, ◌||◌, not, refl, ap, sym}
 use Rattle.std.proofs.lemmas.Bool.{false≢true, and_parts, or_from}
 use Rattle.storage_machine.specs.Commands.{is_calm}
 use Rattle.storage_machine.specs.Cuts.{is_due}
@@ -8,10 +8,10 @@ use Rattle.storage_machine.specs.declared.state.Event.TheVariants.{Untold, Told}
 use Rattle.storage_machine.specs.declared.state.Owed.TheVariants.{Nothing, Dark}
 use Rattle.storage_machine.specs.declared.state.State.{State}
 use Rattle.storage_model.specs.declared.faults.Letter.{Letter}
-use Rattle.storage_model.specs.declared.faults.Letter.TheVariants.{Card, Engine}
+use Rattle.storage_model.specs.declared.faults.Letter.TheVariants.{Card, Engine, Host, Cut as PowerActs}
 use Rattle.storage_model.specs.declared.trace.Item.{Item}
 use Rattle.storage_model.specs.declared.trace.Item.TheVariants.{Phase, Cut}
-use Rattle.storage_order.specs.Events.{end_rule}
+use Rattle.storage_order.specs.Events.{end_rule, rule_of_end}
 use Rattle.storage_order.specs.Order.{is_of_next, letters_left, starts, starts_at}
 use Rattle.storage_runs.proofs.CardLast.{rested_card, unsaid, work_event}
 use Rattle.storage_runs.proofs.Cuts.{cut_first, cut_rule, plain_tick, plain_told, plainly_cut}
@@ -139,3 +139,16 @@ none_left m s x late (inr none) = none
 
 pub card_due : (m s : State) (n id count : ℕ) (kept : Bool) → Still m s Card → is_due s ≡ true → IsItsLine m Card (Phase n id count kept) → false ≡ true
 card_due m s n id count kept x late its = card_other m s n id count kept x (none_left m s x late x.letters) (card_busied m s x late).work its
+
+-- the letter that was told is the engine's or the card's
+pub host_told : (m : State) → end_rule m ≡ None → m.event ≡ Told Host → false ≡ true
+unfolding end_rule
+host_told m end e = absurd (cc (rw e at end))
+
+none_to_do : (some : Bool) → cond {A = Option ℕ} (not some) None (Some 12) ≡ None → some ≡ true → false ≡ true
+none_to_do true end e = absurd (cc)
+none_to_do false end e = e
+
+pub power_told : (m : State) → end_rule m ≡ None → m.event ≡ Told PowerActs → to_do m ≡ true → false ≡ true
+unfolding end_rule
+power_told m end e some = none_to_do (to_do m) (sym (ap (rule_of_end m) e) ∙ end) some

@@ -49,14 +49,14 @@ cut_first s free = first_cut_by s s.owed free
 abbrev pub plainly_cut : State → State
 plainly_cut s = over (record s { worked = to_do s; spent = 0; notice = false; count = 0 }) (Dark 0)
 
-plain_untold : (s : State) → s.event ≡ Untold → first_cut s ≡ plainly_cut s
+pub plain_untold : (s : State) → s.event ≡ Untold → first_cut s ≡ plainly_cut s
 plain_untold s e = ap (λ event. over (record s { cuts = used s.cuts (line_used s event); worked = to_do s; spent = 0; notice = false; count = 0 }) (Dark 0)) e
 
 pub plain_told : (s : State) → first_cut (record s { event = Told Engine }) ≡ plainly_cut s
 unfolding to_do
 plain_told s = refl
 
-plain_owed : (s : State) (owed : Owed) → plainly_cut (record s { owed = owed }) ≡ plainly_cut s
+pub plain_owed : (s : State) (owed : Owed) → plainly_cut (record s { owed = owed }) ≡ plainly_cut s
 unfolding to_do
 plain_owed s owed = refl
 
@@ -72,12 +72,12 @@ steps_owed_at s owed Discarded = refl
 steps_owed_at s owed Cleaned = refl
 steps_owed_at s owed Resumed = refl
 
-steps_owed : (s : State) (owed : Owed) → recovery_steps (record s { owed = owed }) ≡ record (recovery_steps s) { owed = owed }
+pub steps_owed : (s : State) (owed : Owed) → recovery_steps (record s { owed = owed }) ≡ record (recovery_steps s) { owed = owed }
 unfolding recovery_steps
 steps_owed s owed = steps_owed_at s owed s.recovery
 
 -- the state as the acceptance has it, behind a complete phase or not
-rested_owed : (m : State) → m.event ≡ Untold → m ≡ record (rested m) { owed = m.owed }
+pub rested_owed : (m : State) → m.event ≡ Untold → m ≡ record (rested m) { owed = m.owed }
 rested_owed m e = ap {A = State} (λ x. record x { owed = m.owed }) (sym (ended_untold m e))
 
 -- in what state the acceptance takes an engine's cut
@@ -160,7 +160,7 @@ event_steps s = event_steps_at s s.recovery
 letters_rested : (m : State) → m.event ≡ Untold → letters_left (rested m) ≡ letters_left m
 letters_rested m e = ap (λ x. letters_left x) (ended_untold m e)
 
-due_rested : (m : State) → m.event ≡ Untold → is_due (rested m) ≡ is_due m
+pub due_rested : (m : State) → m.event ≡ Untold → is_due (rested m) ≡ is_due m
 due_rested m e = due_owed (ended m) Nothing ∙ ap is_due (ended_untold m e)
 
 -- the engine's cut is taken

@@ -16,7 +16,7 @@ use Rattle.storage_runs.proofs.Ends.{lasts_taken}
 use Rattle.storage_runs.proofs.Hushes.{engine_kept, recovery_kept, rests, unseen_letter}
 use Rattle.storage_runs.proofs.Told.{IsBegun, begun_facts, phase_uncut, quiet_taken, shown_letter, told_first, untold_told}
 use Rattle.storage_runs.proofs.Turns.{turn_taken}
-use Rattle.storage_runs.specs.Laws.{StandsAt, Takes, rested}
+use Rattle.storage_runs.specs.Laws.{Closes, StandsAt, Takes, rested}
 use Rattle.storage_runs.specs.Runs.{StaysSo, Yields, begun_next, is_shown, shown, with_letter}
 use Rattle.trace_effects.specs.Effects.{begun, begun_by, letters_used}
 
@@ -48,17 +48,17 @@ begun_plan s actor = begun_by_plan (record s { owed = Nothing }) actor
 
 -- a line of the told event that is of no other
 own_line : (b t : State) (item : Item) (items : List Item) (actor : Letter) → IsBegun b actor → Lasts b item items t → Yields b (item ∷ items) → StaysSo b (item ∷ items) → 1 ≤ b.plan.depth
-    → is_of_next b actor item ≡ false → Takes b t (item ∷ items)
+    → is_of_next b actor item ≡ false → Closes b t (item ∷ items)
 own_line b t item items actor begins lasts yields so depth own =
-    (lasts_taken b b t item items lasts so (told_first b actor item begins lasts.begins.told lasts.begins.first yields so.0 own) depth).takes
+    lasts_taken b b t item items lasts so (told_first b actor item begins lasts.begins.told lasts.begins.first yields so.0 own) depth
 
 card_line : (b t : State) (item : Item) (items : List Item) (next : Bool) → is_of_next b Card item ≡ next → to_do b ≡ true → IsBegun b Card → Lasts b item items t → Yields b (item ∷ items) → StaysSo b (item ∷ items)
-    → 1 ≤ b.plan.depth → Takes b t (item ∷ items)
+    → 1 ≤ b.plan.depth → Closes b t (item ∷ items)
 card_line b t item items false own some begins lasts yields so depth = own_line b t item items Card begins lasts yields so depth own
 card_line b t item items true next some begins lasts yields so depth = card_taken b t item items next some begins lasts yields so depth
 
-told_line : (b t : State) (item : Item) (items : List Item) (actor : Letter) → (actor ≡ Card → to_do b ≡ true) → IsBegun b actor → Lasts b item items t → Yields b (item ∷ items) → StaysSo b (item ∷ items)
-    → 1 ≤ b.plan.depth → Takes b t (item ∷ items)
+pub told_line : (b t : State) (item : Item) (items : List Item) (actor : Letter) → (actor ≡ Card → to_do b ≡ true) → IsBegun b actor → Lasts b item items t → Yields b (item ∷ items) → StaysSo b (item ∷ items)
+    → 1 ≤ b.plan.depth → Closes b t (item ∷ items)
 told_line b t item items Host some begins lasts yields so depth = own_line b t item items Host begins lasts yields so depth refl
 told_line b t item items Engine some begins lasts yields so depth =
     own_line b t item items Engine begins lasts yields so depth (phase_uncut b Engine item (untold_told b (Told Engine) begins.event lasts.begins.told) yields)
@@ -66,8 +66,8 @@ told_line b t item items Card some begins lasts yields so depth = card_line b t 
 told_line b t item items PowerActs some begins lasts yields so depth = own_line b t item items PowerActs begins lasts yields so depth refl
 
 told_items : (b t : State) (items : List Item) (actor : Letter) → (actor ≡ Card → to_do b ≡ true) → IsBegun b actor → Makes b items t → Yields b items → StaysSo b items → 1 ≤ b.plan.depth → Takes b t items
-told_items b t [] actor some begins makes yields so depth = quiet_taken b t actor begins makes.0 makes.1 depth
-told_items b t (item ∷ items) actor some begins makes yields so depth = told_line b t item items actor some begins makes yields so depth
+told_items b t [] actor some begins makes yields so depth = (quiet_taken b t actor begins makes.0 makes.1 depth).0
+told_items b t (item ∷ items) actor some begins makes yields so depth = (told_line b t item items actor some begins makes yields so depth).takes
 
 card_to_do : (s : State) (letters : ℕ) → to_do s ≡ true → to_do (begun (record s { letters = letters }) Card) ≡ true
 unfolding to_do begun
@@ -83,7 +83,7 @@ letters_plan s false = refl
 shown_plan : (s : State) (actor : Letter) → (with_letter s actor).plan ≡ s.plan
 shown_plan s actor = letters_plan s (is_shown s actor)
 
-rested_depth : (m : State) (actor : Letter) → 1 ≤ m.plan.depth → 1 ≤ (begun_next (rested m) actor).plan.depth
+pub rested_depth : (m : State) (actor : Letter) → 1 ≤ m.plan.depth → 1 ≤ (begun_next (rested m) actor).plan.depth
 rested_depth m actor depth =
     rw (ap (λ plan. plan.depth) (begun_plan (with_letter (rested m) actor) actor ∙ (shown_plan (rested m) actor ∙ ended_plan m))) depth
 

@@ -64,7 +64,7 @@ comes_faults s t lines comes = makes_faults (begun_next s (chosen s)) t comes.it
 unshown_none : (s : State) → s.faults.turns ≡ [] → is_shown s (chosen s) ≡ false
 unshown_none s none = ap (λ turns. is_letter (chosen s) (slice_get turns s.letters) && not (same_letter (chosen s) PowerActs && is_due s)) none
 
-letter_owed : (s : State) (is : Bool) → (cond is (record s { letters = letters_used s }) s).owed ≡ s.owed
+pub letter_owed : (s : State) (is : Bool) → (cond is (record s { letters = letters_used s }) s).owed ≡ s.owed
 letter_owed s true = refl
 letter_owed s false = refl
 
