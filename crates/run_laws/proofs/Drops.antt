@@ -1,6 +1,7 @@
 -- The cut of a last flush is taken, with the lines behind it.
 use Rattle.std.proofs.Common.{◌≡◌, ◌∙◌, ◌≤◌, Bool, true, false, cond, ◌&&◌, ◌||◌, not, is_some, List, ◌∷◌, ◌++◌, refl, ap, sym}
 use Rattle.std.proofs.lemmas.Bool.{and_left, or_from, or_left}
+use Rattle.run_laws.proofs.Plains.{AllPlain, cut_plain, more_plain}
 use Rattle.run_laws.specs.Whole.{Dropped, Drops, DropsFirst}
 use Rattle.storage_machine.specs.Commands.{is_calm}
 use Rattle.storage_machine.specs.Cuts.{due_line, is_due}
@@ -21,7 +22,7 @@ use Rattle.storage_runs.proofs.Finals.{letters_same, not_late, reached_end}
 use Rattle.storage_runs.proofs.Hushes.{Rests, rests, rests_kept, unseen_kept}
 use Rattle.storage_runs.proofs.Lags.{unseen_late, unseen_letters, unseen_reached}
 use Rattle.storage_runs.proofs.Lines.{event_none, one_taken}
-use Rattle.storage_runs.proofs.Mores.{ended_untold, is_untold_event, more_taken, no_step, start_none}
+use Rattle.storage_runs.proofs.Mores.{ended_untold, more_taken, no_step, start_none}
 use Rattle.storage_runs.proofs.Shown.{ended_plan}
 use Rattle.storage_runs.proofs.Turns.{due_owed}
 use Rattle.storage_runs.specs.Laws.{Closes, IsOpened, StandsAt, rested}
@@ -84,11 +85,14 @@ drop_first m s st e none =
     cut_at m s st e rest none late
     (forced_at m (record s { owed = m.owed }) (letters_left m) refl (steps_at m s (letters_left m) refl e (same_rest m s st e) steps) (sym (due_rested m e) ∙ late) (due_owed s m.owed ∙ none_due s none))
 
+drops_plain : (s last : State) (items : List Item) → Drops s items last → AllPlain (effect s Cut) last items
+drops_plain s last items drops = more_plain (effect s Cut) last items (cut_plain s drops.free drops.none) drops.more
+
 drops_taken : (m s last : State) (items : List Item) → StandsAt m s → m.event ≡ Untold → Drops s items last → (more : List Item) → accept_from ((Cut ∷ items) ++ more) m ≡ accept_from more last
 drops_taken m s last items st e drops more =
     let first = drop_first m s st e drops.none in
     one_taken m first.at Cut first.settled first.order first.line first.event (items ++ more)
-    ∙ (ap (accept_from (items ++ more)) first.effect ∙ more_taken (effect s Cut) last items drops.more drops.kept more)
+    ∙ (ap (accept_from (items ++ more)) first.effect ∙ more_taken (effect s Cut) last items drops.more (drops_plain s last items drops).so more)
 
 depth_last : (m s last : State) (items : List Item) → StandsAt m s → Drops s items last → 1 ≤ last.plan.depth
 depth_last m s last items st drops =
@@ -102,7 +106,7 @@ lines_close m t lines items at closes = rw at closes
 pub drop_closes : (m s t : State) (lines : List Item) → StandsAt m s → m.event ≡ Untold → Dropped s lines t → Closes m t lines
 drop_closes m s t lines st e x =
     let last = x.last in
-    let over = is_untold_event last.event x.event in
+    let over = (drops_plain s last x.items x.drops).event in
     lines_close m t lines (Cut ∷ x.items) x.printed (record {
       takes = record {
         after = last;

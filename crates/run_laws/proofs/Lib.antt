@@ -4,6 +4,7 @@ pub mod Engines
 pub mod Firsts
 pub mod Leads
 pub mod Events
+pub mod Plains
 pub mod Drops
 pub mod Courses
 pub mod Whole

@@ -13,9 +13,9 @@ use Rattle.storage_model.specs.declared.trace.End.{End}
 use Rattle.storage_model.specs.declared.trace.Item.{Item}
 use Rattle.storage_model.specs.declared.trace.Item.TheVariants.{Card, Cut, Turn, Off}
 use Rattle.storage_order.specs.Accept.{accept, started}
-use Rattle.storage_order.specs.Events.{More, closed, is_over, is_untold}
+use Rattle.storage_order.specs.Events.{More, closed, is_over}
 use Rattle.storage_runs.specs.Laws.{Opens, joined}
-use Rattle.storage_runs.specs.Runs.{Comes, StaysSo}
+use Rattle.storage_runs.specs.Runs.{Comes}
 use Rattle.trace_effects.specs.Effects.{effect}
 use Rattle.trace_rules.specs.Lines.{is_free, line_rule}
 
@@ -35,7 +35,6 @@ pub record Drops (s : State) (items : List Item) (last : State) : Type 0 where
   pub free : is_free s.owed ≡ true
   pub none : to_do s ≡ false
   pub more : More (effect s Cut) items last
-  pub kept : StaysSo (effect s Cut) items
 
 -- they are all that follow from it
 pub record Dropped (s : State) (lines : List Item) (t : State) : Type 0 where
@@ -44,7 +43,6 @@ pub record Dropped (s : State) (lines : List Item) (t : State) : Type 0 where
   pub printed : lines ≡ Cut ∷ items
   pub drops : Drops s items last
   pub over : is_over last.owed ≡ true
-  pub event : is_untold last.event ≡ true
   pub state : t ≡ record last { owed = closed last.owed }
 
 -- the line of a letter that tells of the engine's event or the card's
