@@ -45,7 +45,8 @@ pub record Dropped (s : State) (lines : List Item) (t : State) : Type 0 where
   pub over : is_over last.owed ≡ true
   pub state : t ≡ record last { owed = closed last.owed }
 
--- the line of a letter that tells of the engine's event or the card's
+-- The exception: behind such a line, the letter of an engine's or a card's event that printed nothing, the acceptance takes a cut as that event's, and not as
+-- one of the last flush.
 abbrev pub tells : Item → Bool
 tells (Turn EngineActs) = true
 tells (Turn CardActs) = true
@@ -56,8 +57,7 @@ abbrev pub last_of : Item → List Item → Item
 last_of before [] = before
 last_of before (item ∷ items) = last_of item items
 
--- A part of a run: the next event, or a last flush that loses power. Directly behind the letter of an engine's or a card's event, a cut is one of that event,
--- so no last flush loses power there.
+-- a part of a run: the next event, or a last flush that loses power, but for the exception
 abbrev pub Part : Item → State → List Item → State → Type 0
 Part before s lines t = Comes s lines t ⊎ ((tells before ≡ false) × Dropped s lines t)
 
@@ -106,6 +106,6 @@ pub record Front (base : List Block) (plan : Plan) (faults : Faults) (lines : Li
 abbrev pub IsAccepted : List Block → Plan → Faults → List Item → Type 0
 IsAccepted base plan faults lines = (t : State) × (accept base plan faults lines ≡ Ok t)
 
--- all of it are taken, and none is the front of a run whose sink fails at once
+-- they are taken; a run whose sink fails at once wrote none
 abbrev pub IsWholeFrontTaken : List Block → Plan → Faults → List Item → Type 0
 IsWholeFrontTaken base plan faults lines = IsValidPlan plan → (lines ≡ []) ⊎ Front base plan faults lines → IsAccepted base plan faults lines
