@@ -15,15 +15,15 @@ use Rattle.storage_model.specs.declared.trace.Item.TheVariants.{Cut}
 use Rattle.storage_order.specs.Accept.{accept_from}
 use Rattle.storage_order.specs.Events.{ended, engine_step}
 use Rattle.storage_order.specs.Order.{engine_first, forced, is_next, letters_left, next_actor, with_due}
-use Rattle.storage_runs.proofs.Cuts.{cut_first, cut_rule, due_rested, plain_owed, plain_untold, rested_owed, steps_owed}
+use Rattle.run_lines.proofs.Cuts.{cut_first, cut_rule, due_rested, plain_owed, plain_untold, rested_owed, steps_owed}
 use Rattle.storage_runs.proofs.Ends.{First, after_by, more_plan}
-use Rattle.storage_runs.proofs.Engines.{enters_first, untold_starts}
-use Rattle.storage_runs.proofs.Finals.{letters_same, not_late, reached_end}
+use Rattle.run_lines.proofs.Engines.{enters_first, untold_starts}
+use Rattle.run_events.proofs.Finals.{letters_same, not_late, reached_end}
 use Rattle.storage_runs.proofs.Hushes.{Rests, rests, rests_kept, unseen_kept}
 use Rattle.storage_runs.proofs.Lags.{unseen_late, unseen_letters, unseen_reached}
 use Rattle.storage_runs.proofs.Lines.{event_none, one_taken}
 use Rattle.storage_runs.proofs.Mores.{ended_untold, more_taken, no_step, start_none}
-use Rattle.storage_runs.proofs.Shown.{ended_plan}
+use Rattle.storage_runs.proofs.Plans.{ended_plan}
 use Rattle.storage_runs.proofs.Turns.{due_owed}
 use Rattle.storage_runs.specs.Laws.{Closes, IsOpened, StandsAt, rested}
 use Rattle.trace_effects.proofs.Sounds.{effect_keeps}

@@ -1,9 +1,3 @@
-pub mod Idles
-pub mod Still
-pub mod Engines
-pub mod Firsts
-pub mod Leads
-pub mod Events
 pub mod Plains
 pub mod Drops
 pub mod Courses

@@ -12,7 +12,7 @@ use Rattle.storage_model.specs.declared.trace.End.{End}
 use Rattle.storage_model.specs.declared.trace.Item.{Item}
 use Rattle.storage_model.specs.declared.trace.Item.TheVariants.{Cut, Lost, On, Left, Off}
 use Rattle.storage_order.specs.Events.{More, goes_on}
-use Rattle.storage_runs.proofs.Cuts.{cut_first}
+use Rattle.run_lines.proofs.Cuts.{cut_first}
 use Rattle.storage_runs.proofs.Lines.{for_owed}
 use Rattle.storage_runs.specs.Runs.{StaysSo}
 use Rattle.trace_effects.specs.Cuts.{epochs_with, is_deferred, places_of}

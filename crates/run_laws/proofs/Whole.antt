@@ -1,8 +1,9 @@
 -- A whole run is taken, from the card line to the end, and so is what it wrote up to the failure of its sink.
 use Rattle.std.proofs.Common.{inl, inr, ◌≡◌, ◌∙◌, ◌⊎◌, ◌≤◌, ℕ, Bool, true, false, Option, Some, None, Result, Ok, cond, ◌&&◌, ◌==◌, ◌||◌, not, length, List, [], ◌∷◌, ◌++◌, append-nil, refl, ap, sym}
 use Rattle.std.proofs.lemmas.Bool.{false≢true, and_from, eq-eqb}
-use Rattle.run_laws.proofs.Courses.{Led, begun_by, course_led}
-use Rattle.run_laws.specs.Whole.{Course, Finishes, Front, IsAccepted, IsWholeFrontTaken, IsWholeTaken, card_line, last_of, lines_shown, off_lines, opened}
+use Rattle.run_laws.proofs.Courses.{begun_by, course_leads}
+use Rattle.run_events.specs.Laws.{Leads, last_of}
+use Rattle.run_laws.specs.Whole.{Course, Finishes, Front, IsAccepted, IsWholeFrontTaken, IsWholeTaken, card_line, lines_shown, off_lines, opened}
 use Rattle.storage_machine.specs.Cuts.{is_due}
 use Rattle.storage_machine.specs.declared.state.Event.TheVariants.{Untold}
 use Rattle.storage_machine.specs.declared.state.Owed.TheVariants.{Nothing, End as Ended}
@@ -15,7 +16,7 @@ use Rattle.storage_model.specs.declared.trace.End.{End}
 use Rattle.storage_model.specs.declared.trace.Item.{Item}
 use Rattle.storage_order.specs.Accept.{accept, accept_from, started}
 use Rattle.storage_order.specs.Events.{is_untold}
-use Rattle.storage_runs.proofs.Finals.{end_taken}
+use Rattle.run_events.proofs.Finals.{end_taken}
 use Rattle.storage_runs.proofs.Hushes.{rests, rests_kept, unseen_kept}
 use Rattle.storage_runs.proofs.Lines.{event_none, one_taken, order_same, owed_stays, settled_same}
 use Rattle.storage_runs.proofs.Mores.{end_untold, ended_untold}
@@ -80,9 +81,9 @@ opened_stands base plan faults most =
     }
 
 course_begun : (base : List Block) (plan : Plan) (faults : Faults) (parts : List (List Item)) (last : State) → IsValidPlan plan → Course (card_line base plan) (opened base plan faults) parts last
-    → Led (card_line base plan) (opened base plan faults) last (joined parts)
+    → Leads (card_line base plan) (opened base plan faults) last (joined parts)
 course_begun base plan faults parts last valid course =
-    course_led (card_line base plan) (opened base plan faults) (opened base plan faults) last parts (opened_stands base plan faults valid.depth.0) (λ told. card_event base plan faults) course
+    course_leads (card_line base plan) (opened base plan faults) (opened base plan faults) last parts (opened_stands base plan faults valid.depth.0) (λ told. card_event base plan faults) course
 
 -- the end
 stands_free : (m s : State) → StandsAt m s → s.owed ≡ Nothing

@@ -1,17 +1,17 @@
 -- Whole runs: the card line, then one event after the other, then the end's line. Where nothing is to do and the last flush loses power, the lines of its cut
 -- come, and the run goes on.
-use Rattle.std.specs.Prelude.{◌≡◌, ◌⊎◌, ℕ, Bool, true, false, if◌then◌else◌, Option, Some, None, Ok, List, [], ◌∷◌, ◌++◌, length}
+use Rattle.run_events.specs.Laws.{last_of, tells}
+use Rattle.std.specs.Prelude.{◌≡◌, ◌⊎◌, ℕ, true, false, if◌then◌else◌, Option, Some, None, Ok, List, [], ◌∷◌, ◌++◌, length}
 use Rattle.storage_machine.specs.Host.{to_do}
 use Rattle.storage_machine.specs.declared.state.Owed.TheVariants.{Nothing, End as Ended}
 use Rattle.storage_machine.specs.declared.state.State.{State}
 use Rattle.storage_model.specs.Plan.{IsValidPlan}
 use Rattle.storage_model.specs.declared.block.Block.{Block}
 use Rattle.storage_model.specs.declared.faults.Faults.{Faults}
-use Rattle.storage_model.specs.declared.faults.Letter.TheVariants.{Engine as EngineActs, Card as CardActs}
 use Rattle.storage_model.specs.declared.plan.Plan.{Plan}
 use Rattle.storage_model.specs.declared.trace.End.{End}
 use Rattle.storage_model.specs.declared.trace.Item.{Item}
-use Rattle.storage_model.specs.declared.trace.Item.TheVariants.{Card, Cut, Turn, Off}
+use Rattle.storage_model.specs.declared.trace.Item.TheVariants.{Card, Cut, Off}
 use Rattle.storage_order.specs.Accept.{accept, started}
 use Rattle.storage_order.specs.Events.{More, closed, is_over}
 use Rattle.storage_runs.specs.Laws.{Opens, joined}
@@ -45,19 +45,9 @@ pub record Dropped (s : State) (lines : List Item) (t : State) : Type 0 where
   pub over : is_over last.owed ≡ true
   pub state : t ≡ record last { owed = closed last.owed }
 
--- The exception: behind such a line, the letter of an engine's or a card's event that printed nothing, the acceptance takes a cut as that event's, and not as
--- one of the last flush.
-abbrev pub tells : Item → Bool
-tells (Turn EngineActs) = true
-tells (Turn CardActs) = true
-tells item = false
-
--- the last line so far
-abbrev pub last_of : Item → List Item → Item
-last_of before [] = before
-last_of before (item ∷ items) = last_of item items
-
--- a part of a run: the next event, or a last flush that loses power, but for the exception
+-- The exception: where the last line is the letter of an engine's or a card's event that printed nothing, the acceptance takes a cut as that event's, and not
+-- as one of the last flush.
+-- Else a part of a run is the next event, or a last flush that loses power.
 abbrev pub Part : Item → State → List Item → State → Type 0
 Part before s lines t = Comes s lines t ⊎ ((tells before ≡ false) × Dropped s lines t)
 

@@ -1,5 +1,4 @@
 // What the acceptance makes of whole runs.
-ghost use Rattle.run_laws.specs.Laws.{IsFrontTaken, IsRunTaken, IsTaken};
 ghost use Rattle.run_laws.specs.Whole.{IsWholeFrontTaken, IsWholeTaken};
 ghost use Rattle.std.specs.Prelude.{List};
 ghost use Rattle.storage_machine.specs.declared.state.State.{State};
@@ -8,14 +7,10 @@ ghost use Rattle.storage_model.specs.declared.faults.Faults.{Faults};
 ghost use Rattle.storage_model.specs.declared.plan.Plan.{Plan};
 ghost use Rattle.storage_model.specs.declared.trace.Item.{Item};
 
-/// The acceptance of traces takes the lines of each event that comes next, and then stands where the event leads; lines
-/// that only begin that event are taken too; and so it takes the events of a run. It takes a whole run, from the card line
-/// to the end, and what a run wrote up to the failure of its sink.
+/// The acceptance of traces takes a whole run, from the card line to the end, and what a run wrote up to the failure of its
+/// sink.
 #[tactic(auto)]
 pub fn acceptance_takes_whole_runs()
-    ensures event { (m s t : State) → (lines : List Item) → IsTaken m s t lines }
-    ensures front { (m s last : State) → (lines : List Item) → IsFrontTaken m s last lines }
-    ensures run { (m s t : State) → (events : List (List Item)) → IsRunTaken m s t events }
     ensures whole { (base : List Block) → (plan : Plan) → (faults : Faults) → (lines : List Item) → (t : State) → IsWholeTaken base plan faults lines t }
     ensures written { (base : List Block) → (plan : Plan) → (faults : Faults) → (lines : List Item) → IsWholeFrontTaken base plan faults lines }
 {}

@@ -10,15 +10,15 @@ use Rattle.storage_machine.specs.declared.state.State.{State}
 use Rattle.storage_model.specs.declared.trace.Item.TheVariants.{Phase, Cut}
 use Rattle.storage_order.specs.Events.{Fits, engine_step, may_pass, passed}
 use Rattle.storage_order.specs.Order.{engine_first, forced, letters_left, with_due}
-use Rattle.storage_runs.proofs.Cuts.{due_cut_first}
+use Rattle.run_lines.proofs.Cuts.{due_cut_first}
 use Rattle.storage_runs.proofs.Ends.{First}
-use Rattle.storage_runs.proofs.Engines.{enters_first, hit_busy, untold_starts}
-use Rattle.storage_runs.proofs.Hosts.{no_letters}
+use Rattle.run_lines.proofs.Engines.{enters_first, hit_busy, untold_starts}
+use Rattle.run_lines.proofs.Hosts.{no_letters}
 use Rattle.storage_runs.proofs.Hushes.{IsKept, Rests}
 use Rattle.storage_runs.proofs.Lags.{IsBusied, IsTicked, Reached, due_busy}
 use Rattle.storage_runs.proofs.Lines.{event_none}
-use Rattle.storage_runs.proofs.Owns.{own_line}
-use Rattle.storage_runs.proofs.Phases.{busy_line, cut_by_busy, cut_by_event, due_event, hit_event, phase_line, phase_same}
+use Rattle.run_lines.proofs.Owns.{own_line}
+use Rattle.run_lines.proofs.Phases.{busy_line, cut_by_busy, cut_by_event, due_event, hit_event, phase_line, phase_same}
 use Rattle.storage_runs.proofs.Turns.{behind_rested}
 use Rattle.storage_runs.specs.Laws.{StandsAt, rested}
 use Rattle.storage_runs.specs.Runs.{next_letter}

@@ -15,19 +15,19 @@ use Rattle.storage_model.specs.declared.trace.Item.TheVariants.{Phase, Cut}
 use Rattle.storage_order.proofs.Accepts.{holds_unbroken}
 use Rattle.storage_order.specs.Events.{end_rule, ended, ended_by, engine_may_pass, engine_step, may_pass, passed, rule_of_end}
 use Rattle.storage_order.specs.Order.{starts}
-use Rattle.run_laws.proofs.Idles.{late_onward}
-use Rattle.run_laws.proofs.Still.{IsItsLine, Still, plain_onward, plain_unsaid, still_depth, still_onward, told_cut_first}
-use Rattle.storage_runs.proofs.CardLast.{unsaid}
-use Rattle.storage_runs.proofs.Cuts.{plain_tick, plainly_cut}
+use Rattle.run_events.proofs.Idles.{late_onward}
+use Rattle.run_events.proofs.Still.{IsItsLine, Still, plain_onward, plain_unsaid, still_depth, still_onward, told_cut_first}
+use Rattle.run_events.proofs.CardLast.{unsaid}
+use Rattle.run_lines.proofs.Cuts.{plain_tick, plainly_cut}
 use Rattle.storage_runs.proofs.Ends.{First}
-use Rattle.storage_runs.proofs.Engines.{hit_busy, hit_execute, is_command, not_due, not_executed}
+use Rattle.run_lines.proofs.Engines.{hit_busy, hit_execute, is_command, not_due, not_executed}
 use Rattle.storage_runs.proofs.Hushes.{engine_kept, pass_event, pass_where}
 use Rattle.storage_runs.proofs.Lags.{IsBusied, Onward, calm_work, due_busy, due_tick, not_idle, not_true}
 use Rattle.storage_runs.proofs.Lines.{event_none, order_same, settled_same}
 use Rattle.storage_runs.proofs.Mores.{or_true}
-use Rattle.storage_runs.proofs.Owns.{own_line}
-use Rattle.storage_runs.proofs.Phases.{busy_line, cut_by_event, due_event, hit_event, idle_phase, phase_line, phase_same, uncut_yields}
-use Rattle.storage_runs.proofs.Powers.{due_ticked}
+use Rattle.run_lines.proofs.Owns.{own_line}
+use Rattle.run_lines.proofs.Phases.{busy_line, cut_by_event, due_event, hit_event, idle_phase, phase_line, phase_same, uncut_yields}
+use Rattle.run_lines.proofs.Powers.{due_ticked}
 use Rattle.storage_runs.proofs.Told.{due_event as late_event}
 use Rattle.storage_runs.specs.Laws.{rested}
 use Rattle.trace_rules.specs.Lines.{holds, line_rule}

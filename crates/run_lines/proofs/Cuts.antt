@@ -14,7 +14,7 @@ use Rattle.storage_model.specs.declared.trace.Item.TheVariants.{Cut}
 use Rattle.storage_order.specs.Events.{end_rule, ended, engine_step}
 use Rattle.storage_order.specs.Order.{engine_first, forced, is_next, letters_left, with_due}
 use Rattle.storage_runs.proofs.Ends.{First}
-use Rattle.storage_runs.proofs.Engines.{engine_next, enters_first, untold_starts}
+use Rattle.run_lines.proofs.Engines.{engine_next, enters_first, untold_starts}
 use Rattle.storage_runs.proofs.Hushes.{Rests, rests}
 use Rattle.storage_runs.proofs.Lags.{Reached, calm_work}
 use Rattle.storage_runs.proofs.Lines.{event_none}

@@ -18,14 +18,15 @@ use Rattle.storage_order.specs.Accept.{accept_from}
 use Rattle.storage_order.specs.Events.{ended, engine_step}
 use Rattle.storage_order.specs.Order.{engine_first, forced, is_of_next, letters_left, starts, untold_steps, with_due}
 use Rattle.storage_runs.proofs.Ends.{First}
-use Rattle.storage_runs.proofs.Engines.{enters_first}
-use Rattle.storage_runs.proofs.Hosts.{no_letters}
+use Rattle.run_lines.proofs.Engines.{enters_first}
+use Rattle.run_lines.proofs.Hosts.{no_letters}
 use Rattle.storage_runs.proofs.Hushes.{rests, rests_kept, unseen_kept}
 use Rattle.storage_runs.proofs.Lags.{Reached, unseen_late, unseen_letters, unseen_reached}
 use Rattle.storage_runs.proofs.Lines.{event_none, one_taken}
 use Rattle.storage_runs.proofs.Mores.{calm_steps, no_step, start_none}
 use Rattle.storage_runs.proofs.Turns.{behind_rested, due_owed, starts_free}
-use Rattle.storage_runs.specs.Laws.{IsEndTaken, StandsAt, rested}
+use Rattle.run_events.specs.Laws.{IsEndTaken}
+use Rattle.storage_runs.specs.Laws.{StandsAt, rested}
 use Rattle.storage_runs.specs.Runs.{next_letter}
 use Rattle.trace_rules.specs.Lines.{line_rule}
 use Rattle.trace_rules.specs.Steps.{is_line_of, stands_in}

@@ -13,18 +13,18 @@ use Rattle.storage_model.specs.declared.trace.Item.{Item}
 use Rattle.storage_model.specs.declared.trace.Item.TheVariants.{Phase, Cut}
 use Rattle.storage_order.specs.Events.{end_rule, rule_of_end}
 use Rattle.storage_order.specs.Order.{is_of_next, letters_left, starts, starts_at}
-use Rattle.storage_runs.proofs.CardLast.{rested_card, unsaid, work_event}
-use Rattle.storage_runs.proofs.Cuts.{cut_first, cut_rule, plain_tick, plain_told, plainly_cut}
+use Rattle.run_events.proofs.CardLast.{rested_card, unsaid, work_event}
+use Rattle.run_lines.proofs.Cuts.{cut_first, cut_rule, plain_tick, plain_told, plainly_cut}
 use Rattle.storage_runs.proofs.Ends.{First}
 use Rattle.storage_runs.proofs.Hushes.{IsKept, Rests}
-use Rattle.storage_runs.proofs.Hosts.{no_letters}
+use Rattle.run_lines.proofs.Hosts.{no_letters}
 use Rattle.storage_runs.proofs.Lags.{IsBusied, Onward, Reached, not_false}
 use Rattle.storage_runs.proofs.Lines.{event_none, order_same, settled_same}
-use Rattle.storage_runs.proofs.Shown.{ended_plan}
+use Rattle.storage_runs.proofs.Plans.{ended_plan}
 use Rattle.storage_runs.proofs.Told.{due_event}
 use Rattle.storage_runs.specs.Laws.{rested}
 use Rattle.storage_runs.specs.Runs.{next_letter}
-use Rattle.run_laws.proofs.Idles.{engine_onward, late_onward}
+use Rattle.run_events.proofs.Idles.{engine_onward, late_onward}
 use Rattle.trace_effects.specs.Cuts.{used}
 use Rattle.trace_effects.specs.Effects.{first_cut, line_used, over}
 use Rattle.trace_rules.specs.Lines.{is_free}

@@ -15,18 +15,19 @@ use Rattle.storage_model.specs.declared.trace.Item.{Item}
 use Rattle.storage_model.specs.declared.trace.Item.TheVariants.{Params, Address, Poll, Phase, Bus, Cut}
 use Rattle.storage_order.specs.Events.{Fits, end_rule, ended, ended_by, is_untold, shows_phase}
 use Rattle.storage_order.specs.Order.{forced, left_behind, order_rule, settled, start_rule, starts}
-use Rattle.run_laws.proofs.Engines.{engine_command, engine_cut, engine_late, engine_passed, engine_phase}
-use Rattle.run_laws.proofs.Still.{IsItsLine, Still, card_busied, card_cut, card_due, card_phase, host_told, its_line, not_busy, power_told}
+use Rattle.run_events.proofs.Engines.{engine_command, engine_cut, engine_late, engine_passed, engine_phase}
+use Rattle.run_events.proofs.Still.{IsItsLine, Still, card_busied, card_cut, card_due, card_phase, host_told, its_line, not_busy, power_told}
 use Rattle.storage_runs.proofs.Ends.{First}
-use Rattle.storage_runs.proofs.Engines.{command_line, untold_starts}
-use Rattle.storage_runs.proofs.Hosts.{not_told}
+use Rattle.run_lines.proofs.Engines.{command_line, untold_starts}
+use Rattle.run_lines.proofs.Hosts.{not_told}
 use Rattle.storage_runs.proofs.Hushes.{letter_shown, rests, rests_kept, unseen_kept}
 use Rattle.storage_runs.proofs.Lags.{unseen_letters, unseen_reached}
 use Rattle.storage_runs.proofs.Mores.{end_untold, ended_untold, not_true}
-use Rattle.storage_runs.proofs.Phases.{phase_line}
-use Rattle.storage_runs.proofs.Shown.{ended_plan}
+use Rattle.run_lines.proofs.Phases.{phase_line}
+use Rattle.storage_runs.proofs.Plans.{ended_plan}
 use Rattle.storage_runs.proofs.Turns.{ended_owed}
-use Rattle.storage_runs.proofs.Untold.{Opens as Sets, between, chosen_first, due_begun, host_begun, nothing_of, nothing_or}
+use Rattle.run_lines.specs.Laws.{Sets}
+use Rattle.run_lines.proofs.Untold.{between, chosen_first, due_begun, host_begun, nothing_of, nothing_or}
 use Rattle.storage_runs.specs.Laws.{StandsAt, rested}
 use Rattle.storage_runs.specs.Runs.{Unseen, chosen, chosen_by, is_shown, next_letter}
 use Rattle.trace_effects.specs.Effects.{begun_by}

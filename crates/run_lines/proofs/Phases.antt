@@ -16,8 +16,8 @@ use Rattle.storage_order.proofs.Accepts.{holds_unbroken}
 use Rattle.storage_order.specs.Events.{Fits, end_rule, ended, engine_step}
 use Rattle.storage_order.specs.Order.{engine_first, forced, is_next, letters_left, with_due}
 use Rattle.storage_runs.proofs.Ends.{First}
-use Rattle.storage_runs.proofs.Engines.{engine_next, enters_first, hit_busy, untold_starts}
-use Rattle.storage_runs.proofs.Hosts.{idle_due}
+use Rattle.run_lines.proofs.Engines.{engine_next, enters_first, hit_busy, untold_starts}
+use Rattle.run_lines.proofs.Hosts.{idle_due}
 use Rattle.storage_runs.proofs.Hushes.{Rests}
 use Rattle.storage_runs.proofs.Lags.{IsBusied, IsTicked, Reached, calm_work, due_busy, due_tick}
 use Rattle.storage_runs.proofs.Lines.{event_none}

@@ -15,7 +15,7 @@ use Rattle.storage_machine.specs.declared.state.Recovery.TheVariants.{Calm, Halt
 use Rattle.storage_machine.specs.declared.state.State.{State}
 use Rattle.storage_runs.proofs.Lags.{IsBusied, Onward, Reached, calm_work, not_false}
 use Rattle.storage_runs.proofs.Mores.{calm_steps}
-use Rattle.storage_runs.proofs.Powers.{not_ticked}
+use Rattle.run_lines.proofs.Powers.{not_ticked}
 
 found_at : (b : Bool) (i : ℕ) (later : Option ℕ) (rest : Bool) → is_some later ≡ rest → is_some (cond b (Some i) later) ≡ (b || rest)
 found_at true i later rest e = refl

@@ -24,9 +24,9 @@ use Rattle.storage_order.specs.Order.{forced, is_of_next, letters_left, starts, 
 use Rattle.storage_runs.proofs.Ends.{First, after_by, more_plan}
 use Rattle.storage_runs.proofs.Lines.{event_none, one_taken}
 use Rattle.storage_runs.proofs.Mores.{calm_steps, cut_is, is_untold_event, more_taken, not_true, start_none}
-use Rattle.storage_runs.proofs.Engines.{engine_next, enters_first}
+use Rattle.run_lines.proofs.Engines.{engine_next, enters_first}
 use Rattle.storage_runs.proofs.Lags.{calm_work}
-use Rattle.storage_runs.proofs.Phases.{amid, cut_by_event, moved_amid, moved_on, phase_forced, phase_line, uncut_yields}
+use Rattle.run_lines.proofs.Phases.{amid, cut_by_event, moved_amid, moved_on, phase_forced, phase_line, uncut_yields}
 use Rattle.storage_runs.proofs.Turns.{behind_rested}
 use Rattle.storage_runs.proofs.Told.{IsBegun, due_event, phase_uncut, untold_told}
 use Rattle.storage_runs.specs.Laws.{Closes, rested}

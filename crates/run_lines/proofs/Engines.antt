@@ -21,7 +21,7 @@ use Rattle.storage_order.proofs.Accepts.{holds_unbroken}
 use Rattle.storage_order.specs.Events.{Fits, end_rule, ended, may_pass}
 use Rattle.storage_order.specs.Order.{entered, forced, is_alone, is_next, next_actor, is_of_cut, letters_left, needs_step, order_rule, settled, start_rule, starts}
 use Rattle.storage_runs.proofs.Ends.{First}
-use Rattle.storage_runs.proofs.Hosts.{next_turn, first_event, forced_steps, idle_due}
+use Rattle.run_lines.proofs.Hosts.{next_turn, first_event, forced_steps, idle_due}
 use Rattle.storage_runs.proofs.Hushes.{Rests}
 use Rattle.storage_runs.proofs.Lags.{Reached, calm_work, due_busy, due_tick, not_true}
 use Rattle.storage_runs.proofs.Lines.{event_none}
