@@ -45,18 +45,21 @@ pub record Dropped (s : State) (lines : List Item) (t : State) : Type 0 where
   pub over : is_over last.owed ≡ true
   pub state : t ≡ record last { owed = closed last.owed }
 
--- The exception: where the last line is the letter of an engine's or a card's event that printed nothing, the acceptance takes a cut as that event's, and not
--- as one of the last flush.
--- Else a part of a run is the next event, or a last flush that loses power.
+-- A cut stands apart from the event before. The case that is left out: where the last line is the letter of an engine's or a card's event that printed nothing
+-- else, the acceptance takes a cut as one of that event, and not of the last flush.
+abbrev pub IsApart : Item → Type 0
+IsApart before = tells before ≡ false
+
+-- a part of a run: the next event, or a last flush that loses power
 abbrev pub Part : Item → State → List Item → State → Type 0
-Part before s lines t = Comes s lines t ⊎ ((tells before ≡ false) × Dropped s lines t)
+Part before s lines t = Comes s lines t ⊎ (IsApart before × Dropped s lines t)
 
 -- one part after the other
 abbrev pub Course : Item → State → List (List Item) → State → Type 0
 Course before s [] t = t ≡ s
 Course before s (lines ∷ parts) t = (u : State) × Part before s lines u × Course (last_of before lines) u parts t
 
--- How a run ends: by the end's line where nothing is to do, or by one among the lines of a cut.
+-- how a run ends: by the end's line where nothing is to do, or by one among the lines of a cut
 abbrev pub Finishes : State → Option End → State → Type 0
 Finishes s None t = (s.owed ≡ Ended) × (t ≡ s)
 Finishes s (Some end) t = (is_free s.owed ≡ true) × (to_do s ≡ false) × (line_rule s (Off end) ≡ None) × (t ≡ effect s (Off end))
@@ -77,12 +80,12 @@ pub record Whole (base : List Block) (plan : Plan) (faults : Faults) (lines : Li
 abbrev pub IsWholeTaken : List Block → Plan → Faults → List Item → State → Type 0
 IsWholeTaken base plan faults lines t = IsValidPlan plan → Whole base plan faults lines t → accept base plan faults lines ≡ Ok t
 
--- the first lines of a part, and no more of it
+-- the first lines of such a flush, or of any part, and no more of it
 abbrev pub DropsFirst : State → List Item → Type 0
 DropsFirst s lines = (items : List Item) × (last : State) × (lines ≡ Cut ∷ items) × Drops s items last
 
 abbrev pub Begun : Item → State → List Item → Type 0
-Begun before s lines = (lines ≡ []) ⊎ (((last : State) × Opens s lines last) ⊎ ((tells before ≡ false) × DropsFirst s lines))
+Begun before s lines = (lines ≡ []) ⊎ (((last : State) × Opens s lines last) ⊎ (IsApart before × DropsFirst s lines))
 
 -- the lines that a run wrote up to the failure of its sink: those of its parts, and the first of one more
 pub record Front (base : List Block) (plan : Plan) (faults : Faults) (lines : List Item) : Type 0 where
