@@ -145,11 +145,11 @@ letter_shown s Engine at late = ap (λ next. is_letter Engine next && true) at
 letter_shown s Card at late = ap (λ next. is_letter Card next && true) at
 letter_shown s Cut at late = ap (λ next. is_letter Cut next && not (is_due s)) at ∙ ap not late
 
-pass_event : (s : State) (event : Event) → engine_may_pass (record s { event = event }) ≡ engine_may_pass s
+pub pass_event : (s : State) (event : Event) → engine_may_pass (record s { event = event }) ≡ engine_may_pass s
 unfolding engine_may_pass due hit
 pass_event s event = refl
 
-pass_where : (b : Bool) → cond {A = Option ℕ} b None (Some 14) ≡ None → b ≡ true
+pub pass_where : (b : Bool) → cond {A = Option ℕ} b None (Some 14) ≡ None → b ≡ true
 pass_where true e = refl
 pass_where false e = absurd (cc)
 

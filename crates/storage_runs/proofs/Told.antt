@@ -109,20 +109,23 @@ calm_begun b (inl due) = rw due (true_or (is_untold b.event))
 calm_begun b (inr e) = rw e refl
 
 -- an event that prints nothing more than its letter
-pub quiet_taken : (b t : State) (actor : Letter) → IsBegun b actor → end_rule b ≡ None → t ≡ ended b → 1 ≤ b.plan.depth → Takes b t []
-quiet_taken b t actor begins end state depth = record {
-  after = b;
-  stands = inl (record {
-    free = rw begins.owed refl;
-    whole = rw begins.owed refl;
-    ends = end;
-    calm = calm_begun b begins.due;
-    depth = depth;
-    count = 0;
-    unseen = state ∙ ap (λ owed. record (ended b) { owed = owed }) (ended_owed b ∙ begins.owed);
-  });
-  taken = λ more. refl;
-}
+pub quiet_taken : (b t : State) (actor : Letter) → IsBegun b actor → end_rule b ≡ None → t ≡ ended b → 1 ≤ b.plan.depth → (takes : Takes b t []) × (takes.after ≡ b)
+quiet_taken b t actor begins end state depth = (
+  record {
+    after = b;
+    stands = inl (record {
+      free = rw begins.owed refl;
+      whole = rw begins.owed refl;
+      ends = end;
+      calm = calm_begun b begins.due;
+      depth = depth;
+      count = 0;
+      unseen = state ∙ ap (λ owed. record (ended b) { owed = owed }) (ended_owed b ∙ begins.owed);
+    });
+    taken = λ more. refl;
+  },
+  refl,
+)
 
 pub untold_told : (b : State) (event : Event) → (b.event ≡ Untold) ⊎ (b.event ≡ event) → is_untold b.event ≡ false → b.event ≡ event
 untold_told b event (inl e) told = absurd (cc (rw e at told))

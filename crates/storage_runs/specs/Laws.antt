@@ -1,18 +1,17 @@
--- The acceptance of traces takes every run, event by event. Between the lines it stands where the run does, but for events that print nothing.
-use Rattle.std.specs.Prelude.{false, ◌≡◌, ◌⊎◌, ◌≤◌, ℕ, ◌||◌, true, not, None, List, [], ◌∷◌, ◌++◌}
+-- The acceptance of traces beside a run. Between the lines it stands where the run does, but for events that print nothing.
+use Rattle.std.specs.Prelude.{false, ◌≡◌, ◌⊎◌, ◌≤◌, ℕ, ◌||◌, true, false, not, Some, None, List, [], ◌∷◌, ◌++◌}
 use Rattle.storage_machine.specs.Cuts.{is_due}
 use Rattle.storage_machine.specs.Host.{to_do}
 use Rattle.storage_machine.specs.declared.state.Event.TheVariants.{Untold}
 use Rattle.storage_machine.specs.declared.state.Owed.TheVariants.{Nothing, End as Ended}
 use Rattle.storage_machine.specs.declared.state.State.{State}
+use Rattle.storage_model.specs.declared.faults.Letter.{Letter}
 use Rattle.storage_model.specs.declared.trace.Item.{Item}
-use Rattle.storage_model.specs.declared.trace.End.{End}
-use Rattle.storage_model.specs.declared.trace.Item.TheVariants.{Off}
-use Rattle.trace_effects.specs.Effects.{effect}
+use Rattle.storage_model.specs.declared.trace.Item.TheVariants.{Turn}
 use Rattle.storage_order.specs.Accept.{accept_from}
-use Rattle.storage_order.specs.Events.{Starts, end_rule, ended, is_untold}
-use Rattle.storage_runs.specs.Runs.{Comes, Run, StaysSo, Unseen, Yields, begun_next, chosen, is_shown, shown, with_letter}
-use Rattle.trace_rules.specs.Lines.{is_free, line_rule}
+use Rattle.storage_order.specs.Events.{More, Starts, end_rule, ended, is_untold}
+use Rattle.storage_runs.specs.Runs.{StaysSo, Unseen, Yields, begun_next, chosen, is_shown, next_letter, shown, with_letter}
+use Rattle.trace_rules.specs.Lines.{is_free}
 use Rattle.trace_rules.specs.Steps.{is_nothing}
 
 -- the state between events, where the event that was told is over
@@ -45,18 +44,10 @@ pub record Closes (m t : State) (lines : List Item) : Type 0 where
   pub takes : Takes m t lines
   pub event : takes.after.event ≡ Untold
 
--- The event is shown by its letter, or the acceptor saw the end of the one before.
-abbrev pub IsTaken : State → State → State → List Item → Type 0
-IsTaken m s t lines = StandsAt m s → (is_shown s (chosen s) ≡ true) ⊎ (m.event ≡ Untold) → Comes s lines t → Takes m t lines
-
 -- the lines of all events
 abbrev pub joined : List (List Item) → List Item
 joined [] = []
 joined (lines ∷ events) = lines ++ joined events
-
--- a whole run without letters
-abbrev pub IsRunTaken : State → State → State → List (List Item) → Type 0
-IsRunTaken m s t events = StandsAt m s → m.event ≡ Untold → s.faults.turns ≡ [] → Run s events t → Closes m t (joined events)
 
 -- lines that begin the next event, and no more of it
 pub record Opens (s : State) (lines : List Item) (last : State) : Type 0 where
@@ -72,10 +63,11 @@ pub record IsOpened (m : State) (lines : List Item) : Type 0 where
   pub after : State
   pub taken : (more : List Item) → accept_from (lines ++ more) m ≡ accept_from more after
 
-abbrev pub IsFrontTaken : State → State → State → List Item → Type 0
-IsFrontTaken m s last lines = StandsAt m s → (is_shown s (chosen s) ≡ true) ⊎ (m.event ≡ Untold) → Opens s lines last → IsOpened m lines
+-- the further lines of an event are taken
+abbrev pub IsMoreTaken : State → State → List Item → Type 0
+IsMoreTaken s t items = More s items t → StaysSo s items → (more : List Item) → accept_from (items ++ more) s ≡ accept_from more t
 
--- the line that ends a run, where nothing is to do
-abbrev pub IsEndTaken : State → State → End → Type 0
-IsEndTaken m s end = StandsAt m s → to_do s ≡ false → line_rule s (Off end) ≡ None
-    → (more : List Item) → accept_from (Off end ∷ more) m ≡ accept_from more (effect s (Off end))
+-- the line of a letter is taken, and its event has begun
+abbrev pub IsLetterTaken : State → State → Letter → Type 0
+IsLetterTaken m s letter = StandsAt m s → next_letter (rested m) ≡ Some letter → is_due (rested m) ≡ false → is_shown (rested m) letter ≡ true
+    → (more : List Item) → accept_from (Turn letter ∷ more) m ≡ accept_from more (begun_next (rested m) letter)

@@ -10,15 +10,15 @@ use Rattle.storage_machine.specs.declared.state.State.{State}
 use Rattle.storage_model.specs.declared.trace.Item.TheVariants.{Phase, Cut}
 use Rattle.storage_order.specs.Events.{Fits, engine_step, may_pass, passed}
 use Rattle.storage_order.specs.Order.{engine_first, forced, letters_left, with_due}
-use Rattle.storage_runs.proofs.Cuts.{due_cut_first}
+use Rattle.run_lines.proofs.Cuts.{due_cut_first}
 use Rattle.storage_runs.proofs.Ends.{First}
-use Rattle.storage_runs.proofs.Engines.{enters_first, hit_busy, untold_starts}
-use Rattle.storage_runs.proofs.Hosts.{no_letters}
+use Rattle.run_lines.proofs.Engines.{enters_first, hit_busy, untold_starts}
+use Rattle.run_lines.proofs.Hosts.{no_letters}
 use Rattle.storage_runs.proofs.Hushes.{IsKept, Rests}
 use Rattle.storage_runs.proofs.Lags.{IsBusied, IsTicked, Reached, due_busy}
 use Rattle.storage_runs.proofs.Lines.{event_none}
-use Rattle.storage_runs.proofs.Owns.{own_line}
-use Rattle.storage_runs.proofs.Phases.{busy_line, cut_by_busy, cut_by_event, due_event, hit_event, phase_line, phase_same}
+use Rattle.run_lines.proofs.Owns.{own_line}
+use Rattle.run_lines.proofs.Phases.{busy_line, cut_by_busy, cut_by_event, due_event, hit_event, phase_line, phase_same}
 use Rattle.storage_runs.proofs.Turns.{behind_rested}
 use Rattle.storage_runs.specs.Laws.{StandsAt, rested}
 use Rattle.storage_runs.specs.Runs.{next_letter}
@@ -116,11 +116,11 @@ busied_state m s n id count kept st e x letters late rest due_s fits yields =
     let at = x.state in
     rw at (busied_due m (recovery_steps (rested m)) x.spent x.tag n id count kept (rw at at st) e refl letters late x.execute x.may x.work x.late (rw at at rest) (rw at at due_s) (rw at at fits) (rw at at yields))
 
-due_ticked : (q : State) → is_due (record q { notice = true; count = 0 }) ≡ is_due q
+pub due_ticked : (q : State) → is_due (record q { notice = true; count = 0 }) ≡ is_due q
 unfolding to_do due_line
 due_ticked q = refl
 
-not_ticked : (q s : State) → IsTicked q s → is_due s ≡ true → false ≡ true
+pub not_ticked : (q s : State) → IsTicked q s → is_due s ≡ true → false ≡ true
 not_ticked q s x late = sym x.late ∙ (sym (due_ticked q) ∙ (ap is_due (sym x.state) ∙ late))
 
 late_letters : (m s : State) → (s ≡ rested m) ⊎ (next_letter (rested m) ≡ None) → is_due (rested m) ≡ false → is_due s ≡ true → letters_left (rested m) ≡ false

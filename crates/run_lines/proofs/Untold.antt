@@ -1,5 +1,5 @@
--- An event that no letter tells is taken.
-use Rattle.std.proofs.Common.{inl, ◌≡◌, ◌∙◌, ◌≤◌, ℕ, zero, suc, Bool, true, false, Option, Some, None, cond, ◌&&◌, ◌||◌, not, slice_get, List, [], ◌∷◌, ◌++◌, refl, ap, sym}
+-- The first line of an event that no letter tells is taken, where the event before is over.
+use Rattle.std.proofs.Common.{◌≡◌, ◌∙◌, Bool, true, false, Option, Some, None, cond, ◌&&◌, ◌||◌, not, slice_get, refl, ap, sym}
 use Rattle.std.proofs.lemmas.Bool.{false≢true, and_parts}
 use Rattle.storage_machine.specs.Commands.{is_calm}
 use Rattle.storage_machine.specs.Cuts.{is_due}
@@ -11,21 +11,22 @@ use Rattle.storage_machine.specs.declared.state.State.{State}
 use Rattle.storage_model.specs.declared.faults.Letter.{Letter}
 use Rattle.storage_model.specs.declared.faults.Letter.TheVariants.{Host, Engine, Cut as PowerActs}
 use Rattle.storage_model.specs.declared.trace.Item.{Item}
-use Rattle.storage_model.specs.declared.trace.Item.TheVariants.{Params, Address, Poll, Phase, Bus, Cut, Turn}
+use Rattle.storage_model.specs.declared.trace.Item.TheVariants.{Params, Address, Poll, Phase, Bus, Cut}
 use Rattle.storage_order.specs.Accept.{accept_from}
-use Rattle.storage_order.specs.Events.{Fits, Makes, is_untold, shows_phase}
+use Rattle.storage_order.specs.Events.{Fits, is_untold, shows_phase}
 use Rattle.storage_order.specs.Order.{letters_left}
-use Rattle.storage_runs.proofs.Cuts.{engine_cut}
-use Rattle.storage_runs.proofs.Ends.{First, lasts_taken}
-use Rattle.storage_runs.proofs.Engines.{command_first}
-use Rattle.storage_runs.proofs.Hosts.{host_first, no_letters}
-use Rattle.storage_runs.proofs.Hushes.{begun_unshown, letter_shown, rests, rests_kept, unseen_kept}
+use Rattle.run_lines.proofs.Cuts.{engine_cut}
+use Rattle.storage_runs.proofs.Ends.{First}
+use Rattle.run_lines.proofs.Engines.{command_first}
+use Rattle.run_lines.proofs.Hosts.{host_first, no_letters}
+use Rattle.storage_runs.proofs.Hushes.{letter_shown, rests, rests_kept, unseen_kept}
 use Rattle.storage_runs.proofs.Lags.{unseen_late, unseen_letters, unseen_reached}
-use Rattle.storage_runs.proofs.Phases.{engine_phase}
-use Rattle.storage_runs.proofs.Powers.{Between, power_cut, power_phase}
-use Rattle.storage_runs.proofs.Shown.{begun_by_plan, ended_plan}
-use Rattle.storage_runs.specs.Laws.{Closes, StandsAt, rested}
-use Rattle.storage_runs.specs.Runs.{Comes, StaysSo, Unseen, Yields, begun_next, chosen, chosen_by, is_shown, next_letter}
+use Rattle.run_lines.proofs.Phases.{engine_phase}
+use Rattle.run_lines.proofs.Powers.{Between, power_cut, power_phase}
+use Rattle.run_lines.specs.Laws.{IsFirstTaken, Sets}
+use Rattle.storage_runs.proofs.Lines.{one_taken}
+use Rattle.storage_runs.specs.Laws.{StandsAt, rested}
+use Rattle.storage_runs.specs.Runs.{chosen, chosen_by, is_shown, next_letter}
 use Rattle.trace_effects.specs.Effects.{begun_by}
 use Rattle.trace_rules.specs.Steps.{is_cut, is_line_of, is_nothing, is_under_way, yields_to_cut}
 
@@ -42,7 +43,7 @@ between m s st e =
       kept = kept;
     }
 
-free_of : (busy : Bool) → not (busy && true) ≡ true → busy ≡ false
+pub free_of : (busy : Bool) → not (busy && true) ≡ true → busy ≡ false
 free_of true e = absurd (cc)
 free_of false e = refl
 
@@ -65,20 +66,13 @@ engine_line m s (Phase n id count kept) x letters letters_s late work late_s fit
 engine_line m s Cut x letters letters_s late work late_s fits phase yields line = engine_cut m s x.stands x.event x.on letters late x.rest work late_s (free_of s.busy phase)
 engine_line m s item x letters letters_s late work late_s fits phase yields line = absurd (cc)
 
--- the event that has begun, and its first line
-pub record Opens (b : State) (item : Item) : Type 0 where
-  pub told : is_untold b.event ≡ false
-  pub fits : Fits b item
-  pub phase : shows_phase b item ≡ true
-  pub yields : yields_to_cut b item ≡ true
-
-nothing_of : (s : State) (event : Event) (line rest cut : Bool) → s.owed ≡ Nothing → cond (is_nothing s.owed) (line && rest) cut ≡ true → line ≡ true
+pub nothing_of : (s : State) (event : Event) (line rest cut : Bool) → s.owed ≡ Nothing → cond (is_nothing s.owed) (line && rest) cut ≡ true → line ≡ true
 nothing_of s event line rest cut owed stands = (and_parts line rest (sym (ap (λ owed. cond (is_nothing owed) (line && rest) cut) owed) ∙ stands)).0
 
-nothing_or : (s : State) (line : Bool) → s.owed ≡ Nothing → (not (is_nothing s.owed) || line) ≡ true → line ≡ true
+pub nothing_or : (s : State) (line : Bool) → s.owed ≡ Nothing → (not (is_nothing s.owed) || line) ≡ true → line ≡ true
 nothing_or s line owed stands = sym (ap (λ owed. not (is_nothing owed) || line) owed) ∙ stands
 
-due_opens : (m s : State) (item : Item) → Between m s → is_due s ≡ true → Opens (record s { event = Due }) item → First m (record s { event = Due }) item
+due_opens : (m s : State) (item : Item) → Between m s → is_due s ≡ true → Sets (record s { event = Due }) item → First m (record s { event = Due }) item
 due_opens m s item x due opens =
     power_line m s item x due opens.fits opens.phase opens.yields (nothing_of s Due (is_line_of PowerActs (is_calm s.recovery) item) (is_under_way s.busy item) (is_cut item) x.rest.owed opens.fits.stands)
 
@@ -90,17 +84,17 @@ not_late m s false at x due = at
 not_late m s true at x due = absurd (false≢true (sym due ∙ (ap is_due (x.late at) ∙ at)))
 
 -- the host's
-host_opens : (m s : State) (item : Item) → Between m s → next_letter s ≡ None → has_work s ≡ true → is_silent s.recovery ≡ false → is_due s ≡ false → Opens (record s { event = Told Host }) item → First m (record s { event = Told Host }) item
+host_opens : (m s : State) (item : Item) → Between m s → next_letter s ≡ None → has_work s ≡ true → is_silent s.recovery ≡ false → is_due s ≡ false → Sets (record s { event = Told Host }) item → First m (record s { event = Told Host }) item
 host_opens m s item x none work quiet due opens =
     host_first m s item x.stands x.rest x.on (none_before m s x none) (no_letters s none) (not_late m s (is_due (rested m)) refl x due) work quiet opens.fits
     (nothing_or s (is_line_of Host (is_calm s.recovery) item) x.rest.owed opens.fits.stands)
 
-engine_opens : (m s : State) (item : Item) → Between m s → next_letter s ≡ None → has_work s ≡ false → is_due s ≡ false → Opens (record s { event = Told Engine }) item → First m (record s { event = Told Engine }) item
+engine_opens : (m s : State) (item : Item) → Between m s → next_letter s ≡ None → has_work s ≡ false → is_due s ≡ false → Sets (record s { event = Told Engine }) item → First m (record s { event = Told Engine }) item
 engine_opens m s item x none work due opens =
     engine_line m s item x (none_before m s x none) (no_letters s none) (not_late m s (is_due (rested m)) refl x due) work due opens.fits opens.phase opens.yields
     (nothing_or s (is_line_of Engine (is_calm s.recovery) item) x.rest.owed opens.fits.stands)
 
-host_begun : (s : State) (silent : Bool) → is_silent s.recovery ≡ silent → has_work s ≡ true → is_untold (begun_by s Host).event ≡ false → (is_silent s.recovery ≡ false) × (begun_by s Host ≡ record s { event = Told Host })
+pub host_begun : (s : State) (silent : Bool) → is_silent s.recovery ≡ silent → has_work s ≡ true → is_untold (begun_by s Host).event ≡ false → (is_silent s.recovery ≡ false) × (begun_by s Host ≡ record s { event = Told Host })
 host_begun s true at work told = absurd (false≢true (sym told ∙ ap (λ silent. is_untold (cond silent (record (recovery_step s) { event = Untold }) (record s { event = cond (has_work s) (Told Host) Untold })).event) at))
 host_begun s false at work told = (
   at,
@@ -108,79 +102,31 @@ host_begun s false at work told = (
       ∙ ap (λ busy. record s { event = cond busy (Told Host) Untold }) work,
 )
 
-opens_at : (m b c : State) (item : Item) → b ≡ c → First m c item → First m b item
+pub opens_at : (m b c : State) (item : Item) → b ≡ c → First m c item → First m b item
 opens_at m b c item at first = rw at first
 
-host_by : (m s : State) (item : Item) → Between m s → next_letter s ≡ None → has_work s ≡ true → is_due s ≡ false → Opens (begun_by s Host) item → First m (begun_by s Host) item
+host_by : (m s : State) (item : Item) → Between m s → next_letter s ≡ None → has_work s ≡ true → is_due s ≡ false → Sets (begun_by s Host) item → First m (begun_by s Host) item
 host_by m s item x none work due opens =
     let begun = host_begun s (is_silent s.recovery) refl work opens.told in
     opens_at m (begun_by s Host) (record s { event = Told Host }) item begun.1 (host_opens m s item x none work begun.0 due (rw begun.1 at opens))
 
-next_by : (m s : State) (item : Item) (work : Bool) (actor : Letter) → has_work s ≡ work → actor ≡ cond work Host Engine → Between m s → next_letter s ≡ None → is_due s ≡ false → Opens (begun_by s actor) item → First m (begun_by s actor) item
+next_by : (m s : State) (item : Item) (work : Bool) (actor : Letter) → has_work s ≡ work → actor ≡ cond work Host Engine → Between m s → next_letter s ≡ None → is_due s ≡ false → Sets (begun_by s actor) item → First m (begun_by s actor) item
 next_by m s item true actor work is x none due opens = rw is (host_by m s item x none work due (rw is at opens))
 next_by m s item false actor work is x none due opens = rw is (engine_opens m s item x none work due (rw is at opens))
 
-due_begun : (s : State) → is_due s ≡ true → begun_by s PowerActs ≡ record s { event = Due }
+pub due_begun : (s : State) → is_due s ≡ true → begun_by s PowerActs ≡ record s { event = Due }
 due_begun s due = ap (λ late. record s { event = cond late Due (Told PowerActs) }) due
 
-due_by : (m s : State) (item : Item) → Between m s → is_due s ≡ true → Opens (begun_by s PowerActs) item → First m (begun_by s PowerActs) item
+due_by : (m s : State) (item : Item) → Between m s → is_due s ≡ true → Sets (begun_by s PowerActs) item → First m (begun_by s PowerActs) item
 due_by m s item x due opens = opens_at m (begun_by s PowerActs) (record s { event = Due }) item (due_begun s due) (due_opens m s item x due (rw (due_begun s due) at opens))
 
 pub chosen_first : (m s : State) (item : Item) (late : Bool) (letter : Option Letter) (actor : Letter) → is_due s ≡ late → next_letter s ≡ letter → actor ≡ cond late PowerActs (chosen_by s letter) → is_shown s actor ≡ false
-    → Between m s → Opens (begun_by s actor) item → First m (begun_by s actor) item
+    → Between m s → Sets (begun_by s actor) item → First m (begun_by s actor) item
 chosen_first m s item true letter actor due at is unshown x opens = rw is (due_by m s item x due (rw is at opens))
 chosen_first m s item false (Some letter) actor due at is unshown x opens = absurd (false≢true (sym unshown ∙ (ap (λ a. is_shown s a) is ∙ letter_shown s letter at due)))
 chosen_first m s item false None actor due at is unshown x opens = next_by m s item (has_work s) actor refl is x at due opens
 
--- an event that prints nothing
-unseen_more : (k : ℕ) (r s t : State) → Unseen k r s → Comes s [] t → Unseen (suc k) r t
-unseen_more zero r s t un comes = (t, rw un at comes, refl)
-unseen_more (suc k) r s t un comes = (un.0, un.1, unseen_more k un.0 s t un.2 comes)
-
-quiet_comes : (m s t : State) (lines : List Item) → StandsAt m s → Comes s lines t → lines ≡ [] → m.event ≡ Untold → Closes m t lines
-quiet_comes m s t lines st comes none e = record {
-  takes = record {
-    after = m;
-    stands = inl (record {
-      free = st.free;
-      whole = st.whole;
-      ends = st.ends;
-      calm = st.calm;
-      depth = st.depth;
-      count = suc st.count;
-      unseen = unseen_more st.count (rested m) s t st.unseen (rw none at comes);
-    });
-    taken = λ more. ap (λ lines. accept_from (lines ++ more) m) none;
-  };
-  event = e;
-}
-
-takes_at : (m t : State) (lines items : List Item) → lines ≡ items → Closes m t items → Closes m t lines
-takes_at m t lines items at takes = rw at takes
-
-depth_at : (m s : State) (actor : Letter) → Between m s → 1 ≤ (begun_by s actor).plan.depth
-depth_at m s actor x = rw (ap (λ plan. plan.depth) (begun_by_plan s actor ∙ (x.kept.plan ∙ ended_plan m))) x.stands.depth
-
-items_by : (m s t b : State) (lines items : List Item) (actor : Letter) → StandsAt m s → Comes s lines t → Between m s → actor ≡ chosen s → is_shown s actor ≡ false → lines ≡ items → b ≡ begun_by s actor
-    → Makes b items t → Yields b items → StaysSo b items → Closes m t lines
-items_by m s t b lines [] actor st comes x is unshown at begun makes yields so = quiet_comes m s t lines st comes at x.event
-items_by m s t b lines (item ∷ items) actor st comes x is unshown at begun makes yields so =
-    let lasts = rw begun at makes in
-    let begins = lasts.begins in
-    takes_at m t lines (item ∷ items) at (lasts_taken m (begun_by s actor) t item items lasts (rw begun at so)
-    (chosen_first m s item (is_due s) (next_letter s) actor refl refl is unshown x (record {
-      told = begins.told;
-      fits = begins.first;
-      phase = begins.phase;
-      yields = rw begun at yields;
-    }))
-    (depth_at m s actor x))
-
--- the event is taken
-pub untold_taken : (m s t : State) (lines : List Item) → StandsAt m s → Comes s lines t → is_shown s (chosen s) ≡ false → m.event ≡ Untold → Closes m t lines
-untold_taken m s t lines st comes unshown e =
-    let x = between m s st e in
-    let actor = chosen s in
-    let items = comes.items in
-    items_by m s t (begun_next s actor) lines items actor st comes x refl unshown (comes.shows.printed ∙ ap (λ is. cond is (Turn actor ∷ items) items) unshown) (begun_unshown s actor x.rest.owed unshown)
-    comes.shows.happens.makes comes.cut comes.kept
+pub first_taken : (m s : State) (item : Item) → IsFirstTaken m s item
+first_taken m s item st e unshown sets more =
+    let first = chosen_first m s item (is_due s) (next_letter s) (chosen s) refl refl refl unshown (between m s st e) sets in
+    one_taken m first.at item first.settled first.order first.line first.event more ∙ ap (accept_from more) first.effect

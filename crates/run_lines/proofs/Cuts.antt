@@ -14,7 +14,7 @@ use Rattle.storage_model.specs.declared.trace.Item.TheVariants.{Cut}
 use Rattle.storage_order.specs.Events.{end_rule, ended, engine_step}
 use Rattle.storage_order.specs.Order.{engine_first, forced, is_next, letters_left, with_due}
 use Rattle.storage_runs.proofs.Ends.{First}
-use Rattle.storage_runs.proofs.Engines.{engine_next, enters_first, untold_starts}
+use Rattle.run_lines.proofs.Engines.{engine_next, enters_first, untold_starts}
 use Rattle.storage_runs.proofs.Hushes.{Rests, rests}
 use Rattle.storage_runs.proofs.Lags.{Reached, calm_work}
 use Rattle.storage_runs.proofs.Lines.{event_none}
@@ -33,7 +33,7 @@ cut_rule_by s Closed at free = rw at refl
 cut_rule_by s owed at free = absurd (cc)
 
 -- a cut may come where nothing is owed
-cut_rule : (s : State) → is_free s.owed ≡ true → line_rule s Cut ≡ None
+pub cut_rule : (s : State) → is_free s.owed ≡ true → line_rule s Cut ≡ None
 cut_rule s free = cut_rule_by s s.owed refl free
 
 first_cut_by : (s : State) (owed : Owed) → is_free owed ≡ true → cut_at s owed ≡ first_cut s
@@ -41,7 +41,7 @@ first_cut_by s Nothing free = refl
 first_cut_by s Closed free = refl
 first_cut_by s owed free = absurd (cc)
 
-cut_first : (s : State) → is_free s.owed ≡ true → effect s Cut ≡ first_cut s
+pub cut_first : (s : State) → is_free s.owed ≡ true → effect s Cut ≡ first_cut s
 unfolding effect after_cut
 cut_first s free = first_cut_by s s.owed free
 
@@ -49,18 +49,18 @@ cut_first s free = first_cut_by s s.owed free
 abbrev pub plainly_cut : State → State
 plainly_cut s = over (record s { worked = to_do s; spent = 0; notice = false; count = 0 }) (Dark 0)
 
-plain_untold : (s : State) → s.event ≡ Untold → first_cut s ≡ plainly_cut s
+pub plain_untold : (s : State) → s.event ≡ Untold → first_cut s ≡ plainly_cut s
 plain_untold s e = ap (λ event. over (record s { cuts = used s.cuts (line_used s event); worked = to_do s; spent = 0; notice = false; count = 0 }) (Dark 0)) e
 
-plain_told : (s : State) → first_cut (record s { event = Told Engine }) ≡ plainly_cut s
+pub plain_told : (s : State) → first_cut (record s { event = Told Engine }) ≡ plainly_cut s
 unfolding to_do
 plain_told s = refl
 
-plain_owed : (s : State) (owed : Owed) → plainly_cut (record s { owed = owed }) ≡ plainly_cut s
+pub plain_owed : (s : State) (owed : Owed) → plainly_cut (record s { owed = owed }) ≡ plainly_cut s
 unfolding to_do
 plain_owed s owed = refl
 
-plain_tick : (s : State) → plainly_cut (record s { notice = true; count = 0 }) ≡ plainly_cut s
+pub plain_tick : (s : State) → plainly_cut (record s { notice = true; count = 0 }) ≡ plainly_cut s
 unfolding to_do
 plain_tick s = refl
 
@@ -72,12 +72,12 @@ steps_owed_at s owed Discarded = refl
 steps_owed_at s owed Cleaned = refl
 steps_owed_at s owed Resumed = refl
 
-steps_owed : (s : State) (owed : Owed) → recovery_steps (record s { owed = owed }) ≡ record (recovery_steps s) { owed = owed }
+pub steps_owed : (s : State) (owed : Owed) → recovery_steps (record s { owed = owed }) ≡ record (recovery_steps s) { owed = owed }
 unfolding recovery_steps
 steps_owed s owed = steps_owed_at s owed s.recovery
 
 -- the state as the acceptance has it, behind a complete phase or not
-rested_owed : (m : State) → m.event ≡ Untold → m ≡ record (rested m) { owed = m.owed }
+pub rested_owed : (m : State) → m.event ≡ Untold → m ≡ record (rested m) { owed = m.owed }
 rested_owed m e = ap {A = State} (λ x. record x { owed = m.owed }) (sym (ended_untold m e))
 
 -- in what state the acceptance takes an engine's cut
@@ -160,7 +160,7 @@ event_steps s = event_steps_at s s.recovery
 letters_rested : (m : State) → m.event ≡ Untold → letters_left (rested m) ≡ letters_left m
 letters_rested m e = ap (λ x. letters_left x) (ended_untold m e)
 
-due_rested : (m : State) → m.event ≡ Untold → is_due (rested m) ≡ is_due m
+pub due_rested : (m : State) → m.event ≡ Untold → is_due (rested m) ≡ is_due m
 due_rested m e = due_owed (ended m) Nothing ∙ ap is_due (ended_untold m e)
 
 -- the engine's cut is taken

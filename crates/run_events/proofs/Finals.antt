@@ -1,34 +1,33 @@
 -- The line that ends a run is taken.
-use Rattle.std.proofs.Common.{inl, inr, ◌≡◌, ◌∙◌, ◌⊎◌, ℕ, Bool, true, false, Option, Some, None, cond, ◌&&◌, ◌||◌, not, is_some, List, [], ◌∷◌, refl, ap, sym}
-use Rattle.std.proofs.lemmas.Bool.{false≢true, and_left, and_right, or_parts}
+use Rattle.std.proofs.Common.{inl, inr, ◌≡◌, ◌∙◌, ◌⊎◌, ℕ, Bool, true, false, None, cond, ◌&&◌, ◌||◌, not, is_some, refl, ap, sym}
+use Rattle.std.proofs.lemmas.Bool.{false≢true, and_left, or_parts}
 use Rattle.std.specs.List.{list_any}
 use Rattle.storage_machine.specs.Commands.{is_calm}
 use Rattle.storage_machine.specs.Cuts.{due_line, is_due}
 use Rattle.storage_machine.specs.Host.{has_work, recovery_steps, to_do}
 use Rattle.storage_machine.specs.Slots.{has}
 use Rattle.storage_machine.specs.declared.slots.Question.TheVariants.{Issued}
-use Rattle.storage_machine.specs.declared.state.Event.TheVariants.{Untold, Told, Due}
+use Rattle.storage_machine.specs.declared.state.Event.TheVariants.{Due}
 use Rattle.storage_machine.specs.declared.state.Owed.TheVariants.{Nothing}
 use Rattle.storage_machine.specs.declared.state.State.{State}
 use Rattle.storage_model.specs.declared.faults.Letter.{Letter}
 use Rattle.storage_model.specs.declared.faults.Letter.TheVariants.{Host, Engine, Card, Cut as PowerActs}
 use Rattle.storage_model.specs.declared.trace.End.{End}
-use Rattle.storage_model.specs.declared.trace.Item.{Item}
 use Rattle.storage_model.specs.declared.trace.Item.TheVariants.{Off}
 use Rattle.storage_order.specs.Accept.{accept_from}
 use Rattle.storage_order.specs.Events.{ended, engine_step}
-use Rattle.storage_order.specs.Order.{engine_first, entered, forced, is_of_next, letters_left, starts, untold_steps, with_due}
+use Rattle.storage_order.specs.Order.{engine_first, forced, is_of_next, letters_left, starts, untold_steps, with_due}
 use Rattle.storage_runs.proofs.Ends.{First}
-use Rattle.storage_runs.proofs.Engines.{Enters, enters_first}
-use Rattle.storage_runs.proofs.Hosts.{no_letters}
-use Rattle.storage_runs.proofs.Hushes.{Rests, rests, rests_kept, unseen_kept}
+use Rattle.run_lines.proofs.Engines.{enters_first}
+use Rattle.run_lines.proofs.Hosts.{no_letters}
+use Rattle.storage_runs.proofs.Hushes.{rests, rests_kept, unseen_kept}
 use Rattle.storage_runs.proofs.Lags.{Reached, unseen_late, unseen_letters, unseen_reached}
 use Rattle.storage_runs.proofs.Lines.{event_none, one_taken}
 use Rattle.storage_runs.proofs.Mores.{calm_steps, no_step, start_none}
 use Rattle.storage_runs.proofs.Turns.{behind_rested, due_owed, starts_free}
-use Rattle.storage_runs.specs.Laws.{IsEndTaken, StandsAt, rested}
+use Rattle.run_events.specs.Laws.{IsEndTaken}
+use Rattle.storage_runs.specs.Laws.{StandsAt, rested}
 use Rattle.storage_runs.specs.Runs.{next_letter}
-use Rattle.trace_effects.specs.Effects.{effect}
 use Rattle.trace_rules.specs.Lines.{line_rule}
 use Rattle.trace_rules.specs.Steps.{is_line_of, stands_in}
 
@@ -58,7 +57,7 @@ some_busy : (q : State) (spent : ℕ) → to_do (record q { busy = true; spent =
 unfolding to_do
 some_busy q spent = refl
 
-reached_end : (r s : State) → Reached r s → to_do s ≡ false → recovery_steps r ≡ s
+pub reached_end : (r s : State) → Reached r s → to_do s ≡ false → recovery_steps r ≡ s
 reached_end r s (inl x) none = sym x.steps ∙ calm_steps s (calm_idle s none)
 reached_end r s (inr (inl x)) none = absurd (false≢true (sym none ∙ (ap to_do x.state ∙ (some_tick (recovery_steps r) ∙ x.some))))
 reached_end r s (inr (inr x)) none = absurd (false≢true (sym none ∙ (ap to_do x.state ∙ (some_busy (recovery_steps r) x.spent ∙ x.some))))
@@ -77,11 +76,11 @@ off_forced : (r s : State) (end : End) (left : Bool) → letters_left r ≡ left
 unfolding forced
 off_forced r s end left at same steps = off_due (untold_steps r (Off end)) end ∙ off_steps r s end left at same steps
 
-letters_same : (r s : State) → (s ≡ r) ⊎ (next_letter r ≡ None) → letters_left r ≡ true → s ≡ r
+pub letters_same : (r s : State) → (s ≡ r) ⊎ (next_letter r ≡ None) → letters_left r ≡ true → s ≡ r
 letters_same r s (inl same) left = same
 letters_same r s (inr none) left = absurd (false≢true (sym (no_letters r none) ∙ left))
 
-not_late : (r s : State) (late : Bool) → is_due r ≡ late → (is_due r ≡ true → s ≡ r) → to_do s ≡ false → is_due r ≡ false
+pub not_late : (r s : State) (late : Bool) → is_due r ≡ late → (is_due r ≡ true → s ≡ r) → to_do s ≡ false → is_due r ≡ false
 not_late r s false at same none = at
 not_late r s true at same none = absurd (false≢true (sym (and_left (to_do s) (is_some (due_line s)) none) ∙ (ap is_due (same at) ∙ at)))
 

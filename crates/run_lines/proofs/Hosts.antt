@@ -126,7 +126,7 @@ host_ends : (m : State) → end_rule m ≡ None → m.event ≡ Told Host → fa
 unfolding end_rule
 host_ends m end e = absurd (cc (rw e at end))
 
-not_told : (m s : State) (item : Item) → StandsAt m s → Reached (rested m) s → is_line_of Host (is_calm s.recovery) item ≡ true
+pub not_told : (m s : State) (item : Item) → StandsAt m s → Reached (rested m) s → is_line_of Host (is_calm s.recovery) item ≡ true
     → (letter : Letter) → m.event ≡ Told letter → (is_line_of letter (is_calm m.recovery) item && not (is_of_next m letter item)) ≡ false
 not_told m s item st on line Host e = absurd (false≢true (host_ends m st.ends e))
 not_told m s item st on line Engine e = and_left _ _ (engine_not (is_calm s.recovery) (is_calm m.recovery) item line (λ calm. calm_on (rested m) s on (rw (ended_recovery m) calm)))

@@ -1,38 +1,36 @@
 -- Lines that begin the next event are taken.
-use Rattle.std.proofs.Common.{inl, inr, ◌≡◌, ◌∙◌, ◌⊎◌, ℕ, Bool, true, false, None, cond, ◌||◌, List, [], ◌∷◌, ◌++◌, refl, ap, sym}
-use Rattle.std.proofs.lemmas.Bool.{false≢true, or_parts}
+use Rattle.std.proofs.Common.{◌≡◌, ◌∙◌, ℕ, Bool, true, false, None, ◌||◌, List, [], ◌∷◌, ◌++◌, refl, ap}
+use Rattle.std.proofs.lemmas.Bool.{or_parts}
 use Rattle.storage_machine.specs.Commands.{is_calm}
 use Rattle.storage_machine.specs.Cuts.{is_due}
 use Rattle.storage_machine.specs.Host.{has_work, to_do}
-use Rattle.storage_machine.specs.declared.state.Event.TheVariants.{Untold, Told}
+use Rattle.storage_machine.specs.declared.state.Event.TheVariants.{Told}
 use Rattle.storage_machine.specs.declared.state.State.{State}
 use Rattle.storage_model.specs.declared.faults.Letter.{Letter}
 use Rattle.storage_model.specs.declared.faults.Letter.TheVariants.{Host, Engine, Card, Cut as PowerActs}
 use Rattle.storage_model.specs.declared.trace.Item.{Item}
-use Rattle.storage_model.specs.declared.trace.Item.TheVariants.{Phase, Turn}
+use Rattle.storage_model.specs.declared.trace.Item.TheVariants.{Phase}
 use Rattle.storage_order.proofs.Accepts.{holds_unbroken}
 use Rattle.storage_order.specs.Accept.{accept_from}
 use Rattle.storage_order.specs.Events.{Begins, Goes, More}
 use Rattle.storage_order.specs.Order.{is_of_next, letters_left}
-use Rattle.storage_runs.proofs.CardLast.{IsLast, behind, busy_of, card_first, effect_out, late_behind, late_of, more_cut, number_of, so_cut, stands_cut, unsaid}
+use Rattle.run_events.proofs.CardLast.{IsLast, behind, busy_of, card_first, effect_out, late_behind, late_of, more_cut, number_of, so_cut, stands_cut, unsaid}
 use Rattle.storage_runs.proofs.Ends.{First}
-use Rattle.storage_runs.proofs.Hushes.{begun_unshown, rests, unseen_letter}
+use Rattle.storage_runs.proofs.Hushes.{rests, unseen_letter}
 use Rattle.storage_runs.proofs.Lags.{calm_work}
 use Rattle.storage_runs.proofs.Lines.{one_taken}
 use Rattle.storage_runs.proofs.Mores.{cut_is, more_taken, not_true}
-use Rattle.storage_runs.proofs.Powers.{Between}
-use Rattle.storage_runs.proofs.Shown.{begun_shown, some_of_card}
-use Rattle.storage_runs.proofs.Told.{IsBegun, phase_uncut, shown_due, shown_letter, told_first, untold_told}
+use Rattle.run_events.proofs.Shown.{begun_shown, some_of_card}
+use Rattle.storage_runs.proofs.Told.{IsBegun, phase_uncut, shown_letter, told_first, untold_told}
 use Rattle.storage_runs.proofs.Turns.{turn_taken}
-use Rattle.storage_runs.proofs.Untold.{between, chosen_first}
-use Rattle.storage_runs.specs.Laws.{IsFrontTaken, IsOpened, Opens, StandsAt, rested}
-use Rattle.storage_runs.specs.Runs.{StaysSo, Yields, begun_next, chosen, is_shown, next_letter, shown}
-use Rattle.trace_effects.specs.Effects.{begun_by, effect}
+use Rattle.storage_runs.specs.Laws.{IsOpened, StandsAt, rested}
+use Rattle.storage_runs.specs.Runs.{StaysSo, Yields, begun_next, is_shown, shown}
+use Rattle.trace_effects.specs.Effects.{effect}
 use Rattle.trace_effects.specs.Phases.{event_with}
 use Rattle.trace_rules.specs.Steps.{earlier}
 
 -- an event that has begun in b, whose first line is taken
-begins_taken : (m b last : State) (item : Item) (items : List Item) → Begins b item items last → StaysSo b (item ∷ items) → First m b item → IsOpened m (item ∷ items)
+pub begins_taken : (m b last : State) (item : Item) (items : List Item) → Begins b item items last → StaysSo b (item ∷ items) → First m b item → IsOpened m (item ∷ items)
 begins_taken m b last item items begins so first = record {
   after = last;
   taken = λ more.
@@ -104,34 +102,11 @@ shown_open_at m last actor items lines st is due some at goes yields so =
     let inner = goes_open b last items actor (some_of_card r actor is some) (begun_shown r actor is due) goes yields so in
     rw (at, is) (record { after = inner.after; taken = λ more. turn_taken m r actor st (shown_letter r actor is) due is (items ++ more) ∙ inner.taken more })
 
-shown_open : (m s last : State) (actor : Letter) (items lines : List Item) → StandsAt m s → is_shown s actor ≡ true → is_due s ≡ false → to_do s ≡ true → lines ≡ shown s actor items
+pub shown_open : (m s last : State) (actor : Letter) (items lines : List Item) → StandsAt m s → is_shown s actor ≡ true → is_due s ≡ false → to_do s ≡ true → lines ≡ shown s actor items
     → Goes (begun_next s actor) items last → Yields (begun_next s actor) items → StaysSo (begun_next s actor) items → IsOpened m lines
 shown_open m s last actor items lines st is due some at goes yields so =
     let same = unseen_letter st.count (rested m) s actor (rests m) st.unseen (shown_letter s actor is) in
     shown_open_at m last actor items lines (rw same at st) (rw same at is) (rw same at due) (rw same at some) (rw same at at) (rw same at goes) (rw same at yields) (rw same at so)
 
-opened_at : (m : State) (lines items : List Item) → lines ≡ items → IsOpened m items → IsOpened m lines
+pub opened_at : (m : State) (lines items : List Item) → lines ≡ items → IsOpened m items → IsOpened m lines
 opened_at m lines items at opened = rw at opened
-
-untold_open : (m s b last : State) (lines items : List Item) (actor : Letter) → Between m s → actor ≡ chosen s → is_shown s actor ≡ false → lines ≡ items → b ≡ begun_by s actor → Goes b items last → Yields b items → StaysSo b items → IsOpened m lines
-untold_open m s b last lines [] actor x is unshown at begun goes yields so = opened_at m lines [] at (record { after = m; taken = λ more. refl })
-untold_open m s b last lines (item ∷ items) actor x is unshown at begun goes yields so =
-    let begins = rw begun at goes in
-    opened_at m lines (item ∷ items) at (begins_taken m (begun_by s actor) last item items begins (rw begun at so)
-    (chosen_first m s item (is_due s) (next_letter s) actor refl refl is unshown x (record {
-      told = begins.told;
-      fits = begins.first;
-      phase = begins.phase;
-      yields = rw begun at yields;
-    })))
-
-front_by : (m s last : State) (lines : List Item) (is : Bool) → is_shown s (chosen s) ≡ is → StandsAt m s → (is_shown s (chosen s) ≡ true) ⊎ (m.event ≡ Untold) → Opens s lines last → IsOpened m lines
-front_by m s last lines true is st either opens = shown_open m s last (chosen s) opens.items lines st is (shown_due s is) opens.some opens.printed opens.starts.goes opens.cut opens.kept
-front_by m s last lines false is st (inl shown) opens = absurd (false≢true (sym is ∙ shown))
-front_by m s last lines false is st (inr e) opens =
-    let x = between m s st e in
-    let actor = chosen s in
-    untold_open m s (begun_next s actor) last lines opens.items actor x refl is (opens.printed ∙ ap (λ is. cond is (Turn actor ∷ opens.items) opens.items) is) (begun_unshown s actor x.rest.owed is) opens.starts.goes opens.cut opens.kept
-
-pub front_taken : (m s last : State) (lines : List Item) → IsFrontTaken m s last lines
-front_taken m s last lines st either opens = front_by m s last lines (is_shown s (chosen s)) refl st either opens

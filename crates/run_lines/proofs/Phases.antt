@@ -16,8 +16,8 @@ use Rattle.storage_order.proofs.Accepts.{holds_unbroken}
 use Rattle.storage_order.specs.Events.{Fits, end_rule, ended, engine_step}
 use Rattle.storage_order.specs.Order.{engine_first, forced, is_next, letters_left, with_due}
 use Rattle.storage_runs.proofs.Ends.{First}
-use Rattle.storage_runs.proofs.Engines.{engine_next, enters_first, hit_busy, untold_starts}
-use Rattle.storage_runs.proofs.Hosts.{idle_due}
+use Rattle.run_lines.proofs.Engines.{engine_next, enters_first, hit_busy, untold_starts}
+use Rattle.run_lines.proofs.Hosts.{idle_due}
 use Rattle.storage_runs.proofs.Hushes.{Rests}
 use Rattle.storage_runs.proofs.Lags.{IsBusied, IsTicked, Reached, calm_work, due_busy, due_tick}
 use Rattle.storage_runs.proofs.Lines.{event_none}
@@ -134,7 +134,7 @@ phase_forced r n id count kept letters late uncut late_q =
     ∙ ap (λ b. cond b (record q { event = Due }) q) (and_left (is_due q) true late_q))
 
 -- where nothing is due, nothing is executed
-idle_phase : (s : State) (n id count : ℕ) (kept : Bool) → due s ≡ Idle → holds s (Phase n id count kept) ≡ true → false ≡ true
+pub idle_phase : (s : State) (n id count : ℕ) (kept : Bool) → due s ≡ Idle → holds s (Phase n id count kept) ≡ true → false ≡ true
 unfolding holds phase_holds
 idle_phase s n id count kept idle is = sym (ap (is_phase_of s id count kept) idle) ∙ (and_parts (n == next_number s) (is_phase_of s id count kept (due s)) is).1
 

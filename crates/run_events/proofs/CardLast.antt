@@ -24,12 +24,12 @@ use Rattle.storage_order.specs.Order.{forced, is_of_next, letters_left, starts, 
 use Rattle.storage_runs.proofs.Ends.{First, after_by, more_plan}
 use Rattle.storage_runs.proofs.Lines.{event_none, one_taken}
 use Rattle.storage_runs.proofs.Mores.{calm_steps, cut_is, is_untold_event, more_taken, not_true, start_none}
-use Rattle.storage_runs.proofs.Engines.{engine_next, enters_first}
+use Rattle.run_lines.proofs.Engines.{engine_next, enters_first}
 use Rattle.storage_runs.proofs.Lags.{calm_work}
-use Rattle.storage_runs.proofs.Phases.{amid, cut_by_event, moved_amid, moved_on, phase_forced, phase_line, uncut_yields}
+use Rattle.run_lines.proofs.Phases.{amid, cut_by_event, moved_amid, moved_on, phase_forced, phase_line, uncut_yields}
 use Rattle.storage_runs.proofs.Turns.{behind_rested}
 use Rattle.storage_runs.proofs.Told.{IsBegun, due_event, phase_uncut, untold_told}
-use Rattle.storage_runs.specs.Laws.{Takes, rested}
+use Rattle.storage_runs.specs.Laws.{Closes, rested}
 use Rattle.storage_runs.specs.Runs.{StaysSo, Yields}
 use Rattle.trace_effects.proofs.Sounds.{effect_keeps}
 use Rattle.trace_effects.specs.Effects.{after_cut, cut_at, effect, first_cut}
@@ -178,7 +178,7 @@ end_card : (b : State) → b.event ≡ Told Card → end_rule b ≡ None
 unfolding end_rule
 end_card b e = ap (rule_of_end b) e
 
-rested_card : (b : State) → b.event ≡ Told Card → b.owed ≡ Nothing → rested b ≡ unsaid b
+pub rested_card : (b : State) → b.event ≡ Told Card → b.owed ≡ Nothing → rested b ≡ unsaid b
 rested_card b e owed = ap {A = State} (λ x. record x { owed = Nothing }) (ended_card b e) ∙ ap (λ o. record b { event = Untold; owed = o }) (sym owed)
 
 own_next : (nothing next : Bool) → nothing ≡ true → next ≡ true → not (not nothing || (true && not next)) ≡ true
@@ -193,7 +193,7 @@ card_starts b n id count kept x =
     and_from (is_free b.owed) (starts_at b b.event item) (ap is_free x.owed)
     (ap (λ event. starts_at b event item) x.event ∙ own_next (is_nothing b.owed) (not (letters_left b || has_work b)) (ap is_nothing x.owed) (ap not (or_from (letters_left b) (has_work b) x.letters x.work)))
 
-work_event : (b : State) (event : Event) → has_work (record b { event = event }) ≡ has_work b
+pub work_event : (b : State) (event : Event) → has_work (record b { event = event }) ≡ has_work b
 unfolding has_work next_issue
 work_event b event = refl
 
@@ -224,7 +224,7 @@ busy_of b n id count kept x =
     (and_parts true b.busy (sym (ap (λ o. cond (is_nothing o) (true && b.busy) false) x.owed) ∙ (sym (ap (λ event. stands_in b event (Phase n id count kept)) x.event) ∙ x.fits.stands))).1
 
 card_lasts : (b t : State) (n id count : ℕ) (kept : Bool) (items : List Item) → IsLast b n id count kept → Lasts b (Phase n id count kept) items t → StaysSo b (Phase n id count kept ∷ items) → 1 ≤ b.plan.depth
-    → Takes b t (Phase n id count kept ∷ items)
+    → Closes b t (Phase n id count kept ∷ items)
 card_lasts b t n id count kept items x lasts so depth =
     let item = Phase n id count kept in
     let p = effect b item in
@@ -236,13 +236,17 @@ card_lasts b t n id count kept items x lasts so depth =
     let go = lasts.begins.more in
     let same = more_plan p lasts.last items go ∙ (effect_keeps b item).plan in
     let first = card_first b n id count kept x in
+    let over = is_untold_event lasts.last.event lasts.event in
     record {
-      after = lasts.last;
-      stands = after_by lasts.last t lasts.last.owed refl lasts.over (is_untold_event lasts.last.event lasts.event) lasts.state (rw (ap (λ plan. plan.depth) same) depth);
-      taken = λ more.
-          one_taken b first.at item first.settled first.order first.line first.event (items ++ more)
-          ∙ (ap (accept_from (items ++ more)) (first.effect ∙ effect_out b n id count kept x.event)
-          ∙ more_taken (unsaid p) lasts.last items (more_out p lasts.last items e calm late go lasts.event) (so_out p lasts.last items e go so.1) more);
+      takes = record {
+        after = lasts.last;
+        stands = after_by lasts.last t lasts.last.owed refl lasts.over over lasts.state (rw (ap (λ plan. plan.depth) same) depth);
+        taken = λ more.
+            one_taken b first.at item first.settled first.order first.line first.event (items ++ more)
+            ∙ (ap (accept_from (items ++ more)) (first.effect ∙ effect_out b n id count kept x.event)
+            ∙ more_taken (unsaid p) lasts.last items (more_out p lasts.last items e calm late go lasts.event) (so_out p lasts.last items e go so.1) more);
+      };
+      event = over;
     }
 
 pub late_of : (b : State) → is_due b ≡ false ⊎ (b.event ≡ Untold) → b.event ≡ Told Card → is_due b ≡ false
@@ -250,7 +254,7 @@ late_of b (inl late) e = late
 late_of b (inr untold) e = absurd (cc)
 
 card_phase : (b t : State) (n id count : ℕ) (kept : Bool) (items : List Item) → not (letters_left b || has_work b) ≡ true → to_do b ≡ true → IsBegun b Card → Lasts b (Phase n id count kept) items t
-    → Yields b (Phase n id count kept ∷ items) → StaysSo b (Phase n id count kept ∷ items) → 1 ≤ b.plan.depth → Takes b t (Phase n id count kept ∷ items)
+    → Yields b (Phase n id count kept ∷ items) → StaysSo b (Phase n id count kept ∷ items) → 1 ≤ b.plan.depth → Closes b t (Phase n id count kept ∷ items)
 card_phase b t n id count kept items none some begins lasts yields so depth =
     let e = untold_told b (Told Card) begins.event lasts.begins.told in
     let parts = or_parts (letters_left b) (has_work b) (not_true (letters_left b || has_work b) none) in
@@ -267,6 +271,6 @@ card_phase b t n id count kept items none some begins lasts yields so depth =
 
 -- the card's phase is the engine's in the acceptance
 pub card_taken : (b t : State) (item : Item) (items : List Item) → is_of_next b Card item ≡ true → to_do b ≡ true → IsBegun b Card → Lasts b item items t → Yields b (item ∷ items) → StaysSo b (item ∷ items)
-    → 1 ≤ b.plan.depth → Takes b t (item ∷ items)
+    → 1 ≤ b.plan.depth → Closes b t (item ∷ items)
 card_taken b t (Phase n id count kept) items next some begins lasts yields so depth = card_phase b t n id count kept items next some begins lasts yields so depth
 card_taken b t item items next some begins lasts yields so depth = absurd (cc)

@@ -21,7 +21,7 @@ use Rattle.storage_order.proofs.Accepts.{holds_unbroken}
 use Rattle.storage_order.specs.Events.{Fits, end_rule, ended, may_pass}
 use Rattle.storage_order.specs.Order.{entered, forced, is_alone, is_next, next_actor, is_of_cut, letters_left, needs_step, order_rule, settled, start_rule, starts}
 use Rattle.storage_runs.proofs.Ends.{First}
-use Rattle.storage_runs.proofs.Hosts.{next_turn, first_event, forced_steps, idle_due}
+use Rattle.run_lines.proofs.Hosts.{next_turn, first_event, forced_steps, idle_due}
 use Rattle.storage_runs.proofs.Hushes.{Rests}
 use Rattle.storage_runs.proofs.Lags.{Reached, calm_work, due_busy, due_tick, not_true}
 use Rattle.storage_runs.proofs.Lines.{event_none}
@@ -86,7 +86,7 @@ commands_of s (Poll n mask) is = record { cut = refl; of_cut = refl; needs = ref
 commands_of s (Bus n kind id) is = record { cut = refl; of_cut = refl; needs = refl; yields = refl; so = refl }
 commands_of s item is = absurd (cc)
 
-command_line : (s : State) (event : Event) (item : Item) → is_command item ≡ true → line_rule (record s { event = event }) item ≡ line_rule s item
+pub command_line : (s : State) (event : Event) (item : Item) → is_command item ≡ true → line_rule (record s { event = event }) item ≡ line_rule s item
 unfolding line_rule holds params_holds address_holds poll_holds bus_holds due hit polled_mask
 command_line s event (Params n id) is = refl
 command_line s event (Address n id) is = refl
@@ -132,7 +132,7 @@ bus_parts s n kind id h =
     (second.0, third.0, third.1)
 
 -- no such command is heard of where nothing is due, or a phase
-not_due : (s : State) (item : Item) → is_command item ≡ true → s.owed ≡ Nothing → is_calm s.recovery ≡ true → holds s item ≡ true → due s ≡ Idle → false ≡ true
+pub not_due : (s : State) (item : Item) → is_command item ≡ true → s.owed ≡ Nothing → is_calm s.recovery ≡ true → holds s item ≡ true → due s ≡ Idle → false ≡ true
 unfolding holds params_holds address_holds poll_holds bus_holds
 not_due s (Params n id) is owed calm h idle = sym (ap (is_params s id) idle) ∙ (and_parts (is_heard s n) (is_params s id (due s)) h).1
 not_due s (Address n id) is owed calm h idle = sym (ap (is_address s id) idle) ∙ (and_parts (is_heard s n) (is_address s id (due s)) h).1
@@ -140,7 +140,7 @@ not_due s (Poll n mask) is owed calm h idle = sym (ap is_poll idle) ∙ (and_par
 not_due s (Bus n kind id) is owed calm h idle = missed_none s kind id s.recovery calm idle (bus_parts s n kind id (sym (ap (bus_by_owed s n kind id) owed) ∙ h)).2
 not_due s item is owed calm h idle = absurd (cc)
 
-not_executed : (s : State) (item : Item) (tag : ℕ) → is_command item ≡ true → s.owed ≡ Nothing → holds s item ≡ true → due s ≡ Execute tag → is_gone (hit s) ≡ false → false ≡ true
+pub not_executed : (s : State) (item : Item) (tag : ℕ) → is_command item ≡ true → s.owed ≡ Nothing → holds s item ≡ true → due s ≡ Execute tag → is_gone (hit s) ≡ false → false ≡ true
 unfolding holds params_holds address_holds poll_holds bus_holds
 not_executed s (Params n id) tag is owed h at heard = sym (ap (is_params s id) at) ∙ (and_parts (is_heard s n) (is_params s id (due s)) h).1
 not_executed s (Address n id) tag is owed h at heard = sym (ap (is_address s id) at) ∙ (and_parts (is_heard s n) (is_address s id (due s)) h).1

@@ -1,0 +1,11 @@
+pub mod Idles
+pub mod CardLast
+pub mod Still
+pub mod Engines
+pub mod Firsts
+pub mod Shown
+pub mod Leads
+pub mod Fronts
+pub mod Events
+pub mod Joined
+pub mod Finals

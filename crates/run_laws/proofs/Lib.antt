@@ -1,0 +1,4 @@
+pub mod Plains
+pub mod Drops
+pub mod Courses
+pub mod Whole
