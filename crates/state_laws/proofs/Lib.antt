@@ -1,0 +1,15 @@
+mod Bits
+mod Searches
+mod Tags
+mod Ringing
+mod Tasks
+mod Bars
+mod Ready
+mod Dues
+mod Commands
+mod Faults
+mod ReadOff
+mod EngineLaws
+mod Notices
+mod Issues
+mod HostWork

@@ -1,0 +1,10 @@
+pub mod Path
+pub mod Reading
+pub mod Ties
+pub mod Stands
+pub mod Work
+pub mod Engine
+pub mod Host
+pub mod Told
+pub mod Laws
+pub mod Steps
