@@ -119,14 +119,17 @@ alone_if p t goes k slot at bars = ⊎_elim unserved served bars
   where
     calm : is_recovering p.driver.recovery ≡ false
     calm = (calm_if (is_recovering p.driver.recovery) p.regs.stopped goes).0
+
     here : IsRungSlot p.regs.ring slot
     here = all_at (IsRungSlot p.regs.ring) (order_of p.regs.ring) k slot (order_slots p.regs.ring t.regs.ring) at
+
     unserved : (progress_of p.regs.ring slot ≡ Rung) × HasBarrier p.memory (list_of p.regs) slot → length p.regs.ring ≤ 1
     unserved h =
         let task = rung_task p slot t calm here.below here.rings in
         let last : slot ≡ 31 = last_if p.memory (layout p) slot (job p task.id) (asks_notice (plan_of p) (job p task.id)) t.layout_fits.depth task.ties.asks.tag_fits
-            task.ties.asks.means (subst (λ l. HasBarrier p.memory l slot) (list_is p t.regs) h.1) in
+        task.ties.asks.means (subst (λ l. HasBarrier p.memory l slot) (list_is p t.regs) h.1) in
         ring_short p.regs.ring t.regs.ring 31 (only_last p t calm task.id (subst (λ n. holder p n ≡ Some task.id) last task.issued))
+
     served : (progress_of p.regs.ring slot ≢ Rung) × (has_flag (remembered p.engine.held p.regs) slot ≡ true) → length p.regs.ring ≤ 1
     served h =
         let task = begun p slot t goes here.below (begun_after (progress_of p.regs.ring slot) here.rings h.0) in

@@ -73,7 +73,7 @@ any_is question slots word long small same = by_case (has question slots) refl
         sym (ap not (false_from_ne_true (word == 0) (λ z. true≢false (sym set ∙ no_bits word (eqb-true word 0 z) found.0))))
     by_case false e =
         let none : word ≡ 0 = same_from_bits_below 32 word 0 small (omega arith) (λ tag below.
-            let clear : has_bit word tag ≡ false = sym (same tag below) ∙ false_from_ne_true (asks question (slot_at slots tag))
-                (λ set. true≢false (sym (list_any_at (asks question) slots tag None (omega (arith, below, long)) set) ∙ e)) in
-            bit_none (bit_at word tag) clear (bit_at-lt word tag) ∙ sym (bit_at-zero tag)) in
+        let clear : has_bit word tag ≡ false = sym (same tag below) ∙ false_from_ne_true (asks question (slot_at slots tag))
+        (λ set. true≢false (sym (list_any_at (asks question) slots tag None (omega (arith, below, long)) set) ∙ e)) in
+        bit_none (bit_at word tag) clear (bit_at-lt word tag) ∙ sym (bit_at-zero tag)) in
         sym (ap not (eq-eqb word 0 none))

@@ -38,7 +38,6 @@ use Rattle.state_laws.proofs.Ringing.{IsRungSlot, order_slots}
 use Rattle.state_laws.proofs.Searches.{found_one}
 use Rattle.state_laws.proofs.Tags.{IsTask, has_is, none_asked, rung_task}
 
-
 -- what goes ahead of the others is the storage machine's next ready task
 next_is : (s : State) (high ready : Option ℕ) → high_first s ≡ high → first question.Ready s.slots s.order ≡ ready → next_ready s (high_first s) ≡ first_of high ready
 next_is s (Some high) ready e f = ap (next_ready s) e
@@ -126,7 +125,7 @@ pub running_due : (s : State) (p : PathState) (d : Due) → Reads s p → is_run
 running_due s p d r runs_too t goes h =
     let held = remembered p.engine.held p.regs in
     let by = due_by held (first_at Active p.regs.ring) (first_at Named p.regs.ring) (first_at Rung p.regs.ring) (first_high held p.regs.ring)
-        (first_at Ready p.regs.ring) (first_at Sent p.regs.ring) in
+    (first_at Ready p.regs.ring) (first_at Sent p.regs.ring) in
     let is : d ≡ by = plainly held p.regs p.memory d h (alone_if p t goes) ∙ ap (λ b. cond b engine.Rest by) (goes_not_rest p t goes) in
     due_if s true runs_too
     ∙ (command_is s p held (first_at Active p.regs.ring) (first_at Named p.regs.ring) (first_at Rung p.regs.ring) (first_high held p.regs.ring)
@@ -197,7 +196,7 @@ idle_due p d t (empty e halted stopped) h =
     let held = remembered p.engine.held p.regs in
     let goes : rests p.regs ≡ false = rests_is p t.regs ∙ (ap (λ b. b || p.regs.stopped) halted ∙ stopped) in
     let by = due_by held (first_at Active p.regs.ring) (first_at Named p.regs.ring) (first_at Rung p.regs.ring) (first_high held p.regs.ring)
-        (first_at Ready p.regs.ring) (first_at Sent p.regs.ring) in
+    (first_at Ready p.regs.ring) (first_at Sent p.regs.ring) in
     ap (command_due p) (plainly held p.regs p.memory d h (none_rung held p.regs p.memory e) ∙ ap (λ b. cond b engine.Rest by) goes)
     ∙ tick_command p held p.regs.ring e
 

@@ -81,4 +81,3 @@ pub record Reads (s : State) (p : PathState) : Type 0 where
   pub order : s.order ≡ order_of p.regs.ring
   pub plan : s.plan ≡ plan_of p
   pub busy : s.busy ≡ is_busy p
-

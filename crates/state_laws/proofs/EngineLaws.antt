@@ -85,11 +85,11 @@ met_under_way p o c tag t e busy way =
     let b = begun p tag t goes here.below (ap is_begun phase) in
     let noted : HasHit p tag = subst (λ o. IfSome o (HasHit p)) way t.hit in
     let is : p.script.hit ≡ hit_of p.script.hits p.script.sent (execute_of tag b.held.task.desc) b.held.task.desc.blocks =
-        subst (λ o. IsSomeAnd o (λ h. p.script.hit ≡ hit_of p.script.hits p.script.sent (execute_of tag h.task.desc) h.task.desc.blocks)) b.is_held noted in
+    subst (λ o. IsSomeAnd o (λ h. p.script.hit ≡ hit_of p.script.hits p.script.sent (execute_of tag h.task.desc) h.task.desc.blocks)) b.is_held noted in
     let same_id : task.id ≡ b.id = same_Some task.id b.id (sym task.issued ∙ b.issued) in
     let s = state_of p o c in
     let blocks : phase_blocks (job_on s tag) ≡ b.held.task.desc.blocks =
-        ap phase_blocks (job_of_rung s p tag (reads p o c parts.0) task ∙ ap (job p) same_id) ∙ sym b.task.blocks in
+    ap phase_blocks (job_of_rung s p tag (reads p o c parts.0) task ∙ ap (job p) same_id) ∙ sym b.task.blocks in
     let command : due s ≡ machine.Execute tag = phase_is_due s p tag (reads p o c parts.0) (runs_calm p o c parts.0 ∙ ap not parts.1) t goes active in
     hit_is s p.script.hits p.script.sent refl (number_busy p o c e busy)
     ∙ (ap (λ d. met (execute_blocks s d) (kind_at p.script.hits p.script.sent)) command
