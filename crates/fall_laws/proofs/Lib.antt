@@ -1,0 +1,13 @@
+mod Slots
+mod Shapes
+mod Charges
+mod Coming
+mod Engines
+mod Waiting
+mod Ticks
+mod Running
+mod Anew
+mod Orders
+mod Polls
+mod Mosts
+mod Going
