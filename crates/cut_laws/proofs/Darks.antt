@@ -1,13 +1,13 @@
 -- Further cuts, and the end or the line that the power is on behind them.
-use Rattle.std.proofs.Common.{◌≡◌, ◌∙◌, ℕ, zero, suc, ◌+◌, ◌<◌, ◌≤◌, ◌==◌, ◌&&◌, ◌++◌, ◌⊎◌, cond, is_none, inl, inr, Bool, true, false, not, nat_lt, nat_le, Option, Some, None, min, All, List, [], ◌∷◌, length, replicate, refl, ap, sym, subst, arith}
-use Rattle.std.proofs.lemmas.Bool.{both_ways, cases_Bool, le-leb, lt-ltb}
+use Rattle.std.proofs.Common.{◌≡◌, ◌∙◌, ℕ, zero, suc, ◌+◌, ◌<◌, ◌≤◌, ◌++◌, ◌⊎◌, is_none, inl, inr, Bool, true, false, Some, None, min, List, [], ◌∷◌, length, refl, ap, sym, subst, arith}
+use Rattle.std.proofs.lemmas.Bool.{le-leb, lt-ltb}
 use Rattle.left_laws.proofs.Lowest.{next_at, next_is, none_at}
 use Rattle.left_laws.proofs.Effects.{shown_none, shown_some}
 use Rattle.left_laws.proofs.Ons.{on_shown, turns_on}
 use Rattle.left_laws.proofs.Sectors.{map_skip, steady}
 use Rattle.left_laws.proofs.Shows.{below_shown, fault_shown, more_append, option_cases}
 use Rattle.left_laws.specs.Laws.{after_power}
-use Rattle.left_laws.specs.Lines.{CanBeLeft, OwesLeft, has_put, left_line, left_lines, lines_below, shown_below}
+use Rattle.left_laws.specs.Lines.{CanBeLeft, OwesLeft, has_put, left_line, lines_below, shown_below}
 use Rattle.storage_machine.specs.Cuts.{next_left}
 use Rattle.storage_machine.specs.Slots.{has, no_tasks}
 use Rattle.storage_machine.specs.declared.slots.Question.TheVariants.{Issued as IsIssued}
@@ -17,11 +17,10 @@ use Rattle.storage_machine.specs.declared.state.State.{State}
 use Rattle.storage_model.specs.declared.block.Block.{Block}
 use Rattle.storage_model.specs.declared.trace.End.{End}
 use Rattle.storage_model.specs.declared.trace.End.TheVariants.{Good, Fault, Dead, Image}
-use Rattle.storage_model.specs.declared.trace.Item.{Item}
 use Rattle.storage_model.specs.declared.trace.Item.TheVariants.{Cut, Off, On}
 use Rattle.storage_order.specs.Events.{Fits, More}
 use Rattle.trace_effects.specs.Effects.{after_cut, after_off, effect, over}
-use Rattle.trace_rules.specs.Lines.{cut_holds, end_holds, holds, line_rule, off_holds, on_holds}
+use Rattle.trace_rules.specs.Lines.{cut_holds, holds, line_rule, off_holds, on_holds}
 use Rattle.trace_rules.specs.Steps.{stands_in}
 use Rattle.cut_laws.specs.Laws.{AreCutsShown, AreGone, IsEndShown, IsPartShown, IsPowerShown, IsUnreadShown, LeadsNear, MayBeShown, dark, further_cuts, may_end}
 

@@ -1,15 +1,14 @@
 -- The issued requests are lost, one line after the other.
-use Rattle.std.proofs.Common.{◌≡◌, ◌≢◌, ◌∙◌, ℕ, zero, suc, ◌+◌, ◌-◌, ◌<◌, ◌≤◌, ◌==◌, inl, inr, Bool, true, false, nat_lt, if◌then◌else◌, Option, Some, None, IfSome, All, List, [], ◌∷◌, fold, map, length, get_or, slice_set, slice_index_or, replicate, refl, ap, sym, subst, arith}
+use Rattle.std.proofs.Common.{◌≡◌, ◌≢◌, ◌∙◌, ℕ, zero, suc, ◌+◌, ◌-◌, ◌≤◌, ◌==◌, inl, inr, Bool, true, false, nat_lt, Option, Some, None, IfSome, List, [], ◌∷◌, map, length, get_or, slice_set, slice_index_or, replicate, refl, ap, sym, subst, arith}
 use Rattle.std.proofs.lemmas.Bool.{both_ways, cases_Bool, cases_eq, eq-eqb, eqb-true, lt-ltb, ltb-false, ne_eqb}
-use Rattle.std.proofs.lemmas.List.{ext_get_or, get_or-replicate, get_or-set_other, length-map}
+use Rattle.std.proofs.lemmas.List.{ext_get_or, get_or-replicate, get_or-set_other}
 use Rattle.std.proofs.lemmas.List.Quantifiers.{position-Some}
 use Rattle.std.proofs.Math.ListN.{get_or-map}
 use Rattle.std.specs.List.{position, position_or_len}
 use Rattle.storage_machine.specs.Cuts.{first_lost}
-use Rattle.storage_machine.specs.Slots.{changed, changed_slots, changed_from, id_of, no_tasks, slot_at, tag_with, asks_of}
+use Rattle.storage_machine.specs.Slots.{changed_slots, changed_from, id_of, no_tasks, slot_at, tag_with, asks_of}
 use Rattle.storage_machine.specs.declared.slots.Change.TheVariants.{Answer}
 use Rattle.storage_machine.specs.declared.slots.Question.TheVariants.{Issued as IsIssued}
-use Rattle.storage_machine.specs.declared.state.Event.{Event}
 use Rattle.storage_machine.specs.declared.state.Event.TheVariants.{Untold}
 use Rattle.storage_machine.specs.declared.state.Owed.TheVariants.{Dark}
 use Rattle.storage_machine.specs.declared.state.State.{State}
@@ -19,12 +18,12 @@ use Rattle.storage_model.specs.declared.trace.Item.TheVariants.{Lost}
 use Rattle.storage_order.specs.Events.{Fits, More, goes_on}
 use Rattle.storage_runs.specs.Runs.{StaysSo}
 use Rattle.trace_effects.specs.Effects.{after_lost, effect, without_data}
-use Rattle.trace_rules.specs.Lines.{holds, line_rule, lost_by_owed, lost_holds}
+use Rattle.trace_rules.specs.Lines.{holds, line_rule, lost_holds}
 use Rattle.trace_rules.specs.Steps.{stands_in}
-use Rattle.cut_laws.proofs.Numbers.{AreIssued, IsFrom, kept_above, lost_is, next_above, next_lowest, none_above, none_kept}
+use Rattle.cut_laws.proofs.Numbers.{AreIssued, kept_above, lost_is, next_above, next_lowest, none_above, none_kept}
 use Rattle.cut_laws.proofs.Slots.{HasTask, all_slots, data_empty, data_long, id_stays, length_set, lost_slots, next_task, no_blocks, slot_after, slot_kept, value_set, was_lost, was_there}
-use Rattle.cut_laws.specs.Laws.{AreLostShown, Follow, IsCut, IsHeldBy, LosesRequests, all_lost, no_data}
-use Rattle.cut_laws.specs.Lost.{AreLost, above, ids_in, lost_lines, next_lost}
+use Rattle.cut_laws.specs.Laws.{AreLostShown, IsCut, IsHeldBy, LosesRequests, all_lost, no_data}
+use Rattle.cut_laws.specs.Lost.{AreLost, ids_in, lost_lines, next_lost}
 
 -- the parts of the state that the lines change
 abbrev pub with_parts : State → List (Option Task) → List Bool → List (List Block) → State

@@ -1,6 +1,6 @@
 -- The lowest request above a number.
-use Rattle.std.proofs.Common.{◌≡◌, ◌∙◌, ℕ, zero, suc, ◌+◌, ◌<◌, ◌≤◌, inl, inr, true, false, nat_lt, if◌then◌else◌, Option, Some, None, min, IfSome, All, List, [], ◌∷◌, fold, map, refl, ap, sym, subst, arith}
-use Rattle.std.proofs.lemmas.Bool.{cases_Bool, ltb-true, ltb-false}
+use Rattle.std.proofs.Common.{◌≡◌, ℕ, ◌<◌, ◌≤◌, inl, inr, true, nat_lt, if◌then◌else◌, Option, Some, None, min, IfSome, All, List, [], ◌∷◌, fold, map, refl, ap, sym, subst, arith}
+use Rattle.std.proofs.lemmas.Bool.{cases_Bool, ltb-true}
 use Rattle.std.proofs.lemmas.List.Elements.{All-nil, All-cons, All-head, All-tail}
 use Rattle.storage_machine.specs.Cuts.{first_lost, least, lower_issued}
 use Rattle.storage_machine.specs.Slots.{asks_of}

@@ -1,11 +1,9 @@
 -- What is left of the slots where one more request is lost.
-use Rattle.std.proofs.Common.{◌≡◌, ◌≢◌, ◌∙◌, ℕ, zero, suc, ◌+◌, ◌-◌, ◌<◌, ◌≤◌, ◌⊎◌, inl, inr, Bool, true, false, ◌==◌, nat_lt, Option, Some, None, min, IfSome, All, List, [], ◌∷◌, fold, map, length, get_or, slice_set, slice_index_or, replicate, refl, ap, sym, subst, arith}
+use Rattle.std.proofs.Common.{◌≡◌, ◌≢◌, ◌∙◌, ℕ, zero, suc, ◌+◌, ◌<◌, ◌≤◌, ◌⊎◌, inl, inr, false, ◌==◌, nat_lt, Option, Some, None, min, All, List, [], ◌∷◌, fold, map, length, get_or, slice_set, slice_index_or, refl, ap, sym, subst, arith}
 use Rattle.std.proofs.lemmas.Bool.{both_ways, cases_Bool, cases_eq, cases_lt, eqb-true, eqb-false, lt-ltb, le-ltb}
 use Rattle.std.proofs.lemmas.List.{get_or-set_other}
 use Rattle.std.proofs.lemmas.List.Elements.{All-nil, All-cons, All-head, All-tail}
-use Rattle.std.proofs.lemmas.List.Quantifiers.{position-Some}
 use Rattle.std.proofs.Math.ListN.{get_or-map}
-use Rattle.std.specs.List.{position}
 use Rattle.storage_machine.specs.Slots.{changed, changed_from, id_of, slot_at}
 use Rattle.storage_machine.specs.declared.slots.Change.TheVariants.{Answer}
 use Rattle.storage_machine.specs.declared.state.Task.{Task}

@@ -1,15 +1,13 @@
 -- A loss of power leaves no more to do.
-use Rattle.std.proofs.Common.{◌≡◌, ◌≢◌, ◌⊎◌, ◌<◌, ◌≤◌, ◌+◌, ◌-◌, ◌*◌, ◌==◌, ℕ, zero, suc, refl, sym, ◌∙◌, ap, subst, arith, Bool, true, false, List, [], ◌∷◌, length, min, inl, inr}
-use Rattle.std.specs.Prelude.{cond, count_by, is_some, nat_le, nat_lt, not, set, slice_get, Option, Some, None}
-use Rattle.std.proofs.lemmas.Bool.{false≢true, lt-ltb, ltb-true}
-use Rattle.storage_machine.specs.declared.state.Stop.{Stop}
+use Rattle.std.proofs.Common.{◌≡◌, ◌⊎◌, ◌<◌, ◌≤◌, ◌+◌, ◌-◌, ◌*◌, ◌==◌, ℕ, refl, ◌∙◌, ap, arith, Bool, true, false, List, length, inl, inr}
+use Rattle.std.specs.Prelude.{cond, nat_lt}
+use Rattle.std.proofs.lemmas.Bool.{lt-ltb, ltb-true}
 use Rattle.storage_machine.specs.declared.state.Stop.TheVariants as stop
 use Rattle.storage_model.specs.declared.faults.Hit.{Hit}
 use Rattle.drv_core.specs.State.{is_recovering}
-use Rattle.drv_recover.specs.declared.recovery.RecoveryState.TheVariants as driver
 use Rattle.world_state.specs.Path.{PathState}
 use Rattle.world_state.specs.Reading.{stop_by, stop_of}
-use Rattle.world_state.specs.Work.{doomed, hit_waits, hits_left, issued, left_on_path, recovery_left, stop_cost, stop_left, ticks_left, unanswered, waiting, work_left}
+use Rattle.world_state.specs.Work.{doomed, hit_waits, hits_left, issued, left_on_path, recovery_left, stop_left, ticks_left, unanswered, waiting, work_left}
 use Rattle.fall_laws.specs.Falls.{IsAnew}
 use Rattle.host_falls.proofs.Crossings.{number_left}
 use Rattle.host_falls.proofs.Dooms.{doomed_issued}

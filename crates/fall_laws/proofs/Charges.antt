@@ -1,5 +1,5 @@
 -- What a call of the bus uses up of the script: words and faults, and a fault of the data or of the end of a phase waits until it stops the engine.
-use Rattle.std.proofs.Common.{◌≡◌, ◌≢◌, ◌<◌, ◌≤◌, ◌+◌, ◌-◌, ◌*◌, ℕ, length, refl, sym, ◌∙◌, ap, subst, arith, Bool, true, false}
+use Rattle.std.proofs.Common.{◌≡◌, ◌≤◌, ◌+◌, ◌-◌, ◌*◌, ℕ, length, refl, sym, ◌∙◌, ap, arith, Bool, true, false}
 use Rattle.std.specs.Prelude.{cond, is_some, MatchOption, Option, Some, None, Result, Ok, Err}
 use Rattle.std.proofs.lemmas.Bool.{false≢true}
 use Rattle.storage_model.specs.declared.block.Block.{Block}
@@ -19,7 +19,7 @@ use Rattle.card_link.specs.Made.{Closes, Exchanges, Gives, IsGiven, IsLost, IsTa
 use Rattle.cmd_words.specs.declared.command.Command.{Command}
 use Rattle.world_state.specs.Ties.{IsScript}
 use Rattle.fall_laws.specs.Falls.{ScriptGoesOn}
-use Rattle.host_falls.proofs.Crossings.{Crosses, crosses, fewer_left, number_left, one_less_left}
+use Rattle.host_falls.proofs.Crossings.{crosses, fewer_left, number_left, one_less_left}
 use Rattle.fall_laws.proofs.Shapes.{is_struck}
 
 -- what a fault costs that is used up and has not stopped the engine

@@ -1,11 +1,10 @@
 -- What an event of the engine comes to, by what was due.
-use Rattle.std.proofs.Common.{◌≡◌, ◌≢◌, ◌⊎◌, ◌<◌, ◌≤◌, ◌+◌, ℕ, length, refl, sym, ◌∙◌, ap, subst, arith, inl, inr}
-use Rattle.std.specs.Prelude.{Bool, true, false, cond, is_some, nat_lt, Option, Some, None, Result, Ok, Err}
+use Rattle.std.proofs.Common.{◌≡◌, ◌⊎◌, ◌<◌, ◌≤◌, ◌+◌, ℕ, length, refl, sym, ◌∙◌, ap, subst, arith, inl, inr}
+use Rattle.std.specs.Prelude.{Bool, true, false, cond, is_some, Option, Some, None, Result, Ok, Err}
 use Rattle.std.specs.Bool.{MatchBool}
 use Rattle.std.specs.Option.{IsSomeAnd, MatchOption, option_map, option_map_or}
 use Rattle.std.proofs.lemmas.Bool.{false≢true}
 use Rattle.host_mem.specs.Memory.{Memory}
-use Rattle.bus_link.specs.declared.link.LinkEnd.{LinkEnd}
 use Rattle.card_link.specs.Behind.{Behind}
 use Rattle.card_link.specs.Made.{CardMade}
 use Rattle.cmd_words.specs.declared.command.Command.TheVariants.{Address as StartSector}
@@ -24,10 +23,10 @@ use Rattle.cq_schedule.specs.Held.{Places, held_at}
 use Rattle.cq_schedule.specs.Meaning.{HasItsSlot, IsDue, IsDueThen, after_serving, list_of, next_of_phase, rests}
 use Rattle.cq_schedule.specs.Order.{blocks_of, first_at, first_high, moved_of}
 use Rattle.piece_data.specs.Data.{block_of}
-use Rattle.cq_engine.specs.After.{after_address, after_block, after_close, after_execute, after_params, after_poll}
+use Rattle.cq_engine.specs.After.{after_block}
 use Rattle.cq_engine.specs.Event.{Does, Gives, Serves, Takes}
 use Rattle.cq_engine.specs.Outcome.{Host, Outcome}
-use Rattle.cq_engine.specs.Words.{direct_of, execute_of, params_of, poll_of}
+use Rattle.cq_engine.specs.Words.{direct_of, execute_of, params_of}
 use Rattle.world_state.specs.Ties.{IsScript}
 use Rattle.fall_laws.proofs.Charges.{Charges, close_charges, command_charges, give_charges, take_charges}
 use Rattle.fall_laws.proofs.Shapes.{Shape, address_shape, along, block_shape, close_shape, direct_shape, execute_shape, idle_less, is_struck, means_few, params_shape}

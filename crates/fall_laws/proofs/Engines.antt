@@ -1,41 +1,31 @@
 -- Each event of the engine in which a call crosses the bus, or a slot is dropped, leaves less to do.
-use Rattle.std.proofs.Common.{◌≡◌, ◌≢◌, ◌<◌, ◌≤◌, ◌+◌, ◌-◌, ◌*◌, ◌==◌, ◌&&◌, ◌||◌, ℕ, refl, sym, ◌∙◌, ap, subst, arith, Bool, true, false, List, [], ◌∷◌, length}
-use Rattle.std.specs.Prelude.{cond, is_some, nat_eq, not, IfSome, MatchOption, Option, Some, None}
+use Rattle.std.proofs.Common.{◌≡◌, ◌<◌, ◌≤◌, ◌+◌, ◌-◌, ◌*◌, ◌==◌, ◌&&◌, ℕ, refl, sym, ◌∙◌, ap, subst, arith, Bool, true, false, List, [], ◌∷◌}
+use Rattle.std.specs.Prelude.{cond, is_some, IfSome, MatchOption, Option, Some, None}
 use Rattle.std.specs.List.{All, find}
 use Rattle.std.specs.Option.{option_map_or, option_or}
 use Rattle.std.proofs.lemmas.Bool.{eqb-true, false≢true}
 use Rattle.std.proofs.lemmas.List.Elements.{All-head, All-tail}
-use Rattle.storage_machine.specs.declared.state.Stop.TheVariants as stop
-use Rattle.array_edge.specs.Array.{ArrayState}
 use Rattle.bus_link.specs.Script.{Script}
 use Rattle.bus_link.specs.declared.link.Cause.{Cause}
 use Rattle.bus_link.specs.declared.link.Cause.TheVariants.{Bus as BusFault, Response, Dark}
 use Rattle.card_core.specs.Card.{CardState}
-use Rattle.card_core.specs.declared.phase.Phase.{Phase}
-use Rattle.card_link.specs.Behind.{Behind, behind}
-use Rattle.cq_engine.proofs.Places.{length-remembered}
-use Rattle.cq_engine.specs.Outcome.{Holding, Host, Outcome, stop_of as cause_in}
+use Rattle.cq_engine.specs.Outcome.{Host, stop_of as cause_in}
 use Rattle.cq_engine.specs.declared.did.Did.{Did}
 use Rattle.cq_engine.specs.declared.did.Did.TheVariants.{Stopped}
 use Rattle.cq_regs.specs.Slots.{is_rung, progress_of}
 use Rattle.cq_regs.specs.State.{Registers}
-use Rattle.cq_regs.specs.declared.slots.Progress.{Progress}
-use Rattle.cq_regs.specs.declared.slots.Progress.TheVariants.{Idle, Active}
+use Rattle.cq_regs.specs.declared.slots.Progress.TheVariants.{Idle}
 use Rattle.cq_regs.specs.declared.slots.Ringed.{Ringed}
-use Rattle.cq_schedule.specs.Held.{Places, noted, remembered}
-use Rattle.cq_schedule.specs.Order.{first_at}
-use Rattle.cq_schedule.specs.declared.rules.Due.{Due}
+use Rattle.cq_schedule.specs.Held.{noted, remembered}
 use Rattle.drv_core.specs.Judge.{error_of}
 use Rattle.drv_core.specs.State.{DriverState, is_recovering}
-use Rattle.drv_core.specs.declared.act.Stop.{Stop as Ending}
 use Rattle.drv_core.specs.declared.act.Stop.TheVariants as ending
-use Rattle.drv_jobs.specs.Standings.{holder_of}
 use Rattle.drv_recover.specs.declared.recovery.RecoveryState.TheVariants as driver
-use Rattle.world_state.specs.Engine.{EngineEvent, is_dark, phase_left}
-use Rattle.world_state.specs.Path.{PathState, behind_path, holder, is_busy, under_way}
+use Rattle.world_state.specs.Engine.{is_dark, phase_left}
+use Rattle.world_state.specs.Path.{PathState, holder, is_busy}
 use Rattle.world_state.specs.Reading.{stop_by_word, stop_of}
 use Rattle.world_state.specs.Ties.{AreTied, IsIssued, IsVacant, TagIsTied, named_by}
-use Rattle.world_state.specs.Work.{doomed, hit_waits, hits_left, issued, left_on_path, stop_cost, stop_left, ticks_left, unanswered, waiting, work_left}
+use Rattle.world_state.specs.Work.{doomed, hit_waits, hits_left, issued, left_on_path, ticks_left, unanswered, waiting, work_left}
 use Rattle.fall_laws.specs.Falls.{IsEnding}
 use Rattle.fall_laws.proofs.Charges.{Charges, waits}
 use Rattle.host_falls.proofs.Dooms.{doom, doom_issued, doomed_calm}

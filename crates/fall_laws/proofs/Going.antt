@@ -1,6 +1,6 @@
 -- The script goes on with each event of the engine.
-use Rattle.std.proofs.Common.{◌≡◌, ◌⊎◌, ◌<◌, ◌≤◌, ◌+◌, ℕ, refl, sym, ap, subst, arith, Bool, true, false}
-use Rattle.std.specs.Prelude.{Option, Some, None}
+use Rattle.std.proofs.Common.{◌≡◌, ap, subst, arith, false}
+use Rattle.std.specs.Prelude.{Option}
 use Rattle.array_edge.specs.Array.{ArrayState}
 use Rattle.bus_link.specs.Script.{Script}
 use Rattle.card_core.specs.declared.phase.Phase.{Phase}
@@ -12,7 +12,6 @@ use Rattle.cq_engine.specs.Outcome.{Outcome}
 use Rattle.cq_engine.specs.Words.{poll_of}
 use Rattle.cq_engine.specs.declared.did.Did.{Did}
 use Rattle.cq_schedule.specs.declared.rules.Due.{Due}
-use Rattle.cq_schedule.specs.declared.rules.Due.TheVariants.{Poll}
 use Rattle.world_state.specs.Engine.{EngineEvent}
 use Rattle.world_state.specs.Path.{PathState, behind_path}
 use Rattle.world_state.specs.Ties.{AreTied}

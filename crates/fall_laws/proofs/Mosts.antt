@@ -1,11 +1,10 @@
 -- Whatever event comes, no more is left to do after it.
-use Rattle.std.proofs.Common.{◌≡◌, ◌≢◌, ◌⊎◌, ◌<◌, ◌≤◌, ◌+◌, ◌-◌, ◌*◌, ◌==◌, ◌&&◌, ◌||◌, ℕ, refl, sym, ◌∙◌, ap, subst, arith, Bool, true, false, List, [], length, inl, inr}
-use Rattle.std.specs.Prelude.{cond, is_ok, is_some, not, Option, Some, None, Result, Ok, Err}
+use Rattle.std.proofs.Common.{◌≡◌, ◌⊎◌, ◌≤◌, ◌+◌, ◌-◌, ◌*◌, ◌==◌, ◌||◌, ℕ, refl, sym, ◌∙◌, ap, subst, arith, Bool, true, false, [], inl, inr}
+use Rattle.std.specs.Prelude.{cond, is_some, not, Option, None}
 use Rattle.std.specs.Option.{option_or}
-use Rattle.std.proofs.lemmas.Bool.{eqb-true, false≢true}
+use Rattle.std.proofs.lemmas.Bool.{false≢true}
 use Rattle.storage_machine.specs.declared.state.Stop.TheVariants as stop
 use Rattle.array_edge.specs.Array.{ArrayState}
-use Rattle.bus_link.specs.Script.{Script}
 use Rattle.bus_link.specs.declared.link.Cause.{Cause}
 use Rattle.card_core.specs.Card.{CardState}
 use Rattle.card_core.specs.declared.phase.Phase.{Phase}
@@ -25,20 +24,12 @@ use Rattle.cq_schedule.specs.Held.{remembered}
 use Rattle.cq_schedule.specs.Meaning.{rests}
 use Rattle.cq_schedule.specs.Order.{first_at}
 use Rattle.cq_schedule.specs.declared.rules.Due.{Due}
-use Rattle.cq_schedule.specs.declared.rules.Due.TheVariants.{Rest, Tick, Poll}
-use Rattle.drv_core.specs.Event.{Does as HostDoes, Issues}
+use Rattle.cq_schedule.specs.declared.rules.Due.TheVariants.{Rest, Tick}
 use Rattle.drv_core.specs.State.{DriverState, is_recovering}
-use Rattle.drv_core.specs.Work.{has_work, is_noticed, is_possible, work_of}
-use Rattle.drv_core.specs.declared.act.Act.{Act}
-use Rattle.drv_core.specs.declared.work.Work.TheVariants.{Recover, Collect, Fail, Issue}
-use Rattle.drv_jobs.specs.Next.{due_of}
-use Rattle.drv_jobs.specs.declared.next.Due.{Due as NextDue}
-use Rattle.drv_jobs.specs.declared.next.Hold.{Hold}
 use Rattle.drv_recover.specs.Recovery.{IsAt}
 use Rattle.drv_recover.specs.declared.recovery.RecoveryState.{RecoveryState}
 use Rattle.drv_recover.specs.declared.recovery.RecoveryState.TheVariants as driver
 use Rattle.world_state.specs.Engine.{EngineEvent}
-use Rattle.world_state.specs.Host.{HostEvent, cause_of, moment_of}
 use Rattle.world_state.specs.Path.{PathState, behind_path, is_busy}
 use Rattle.world_state.specs.Reading.{stop_by, stop_of}
 use Rattle.world_state.specs.Ties.{AreTied}

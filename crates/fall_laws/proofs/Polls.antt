@@ -1,6 +1,6 @@
 -- A poll uses up a word, or makes a sent task ready.
-use Rattle.std.proofs.Common.{◌≡◌, ◌≢◌, ◌<◌, ◌≤◌, ◌+◌, ◌-◌, ◌*◌, ◌^◌, ◌==◌, ◌↔◌, ℕ, refl, sym, ◌∙◌, ap, subst, arith, Bool, true, false, List, [], ◌∷◌, length}
-use Rattle.std.specs.Prelude.{cond, is_some, nat_eq, nat_lt, not, get_or, Option, Some, None, Result, Ok, Err}
+use Rattle.std.proofs.Common.{◌≡◌, ◌≢◌, ◌<◌, ◌≤◌, ◌+◌, ◌-◌, ◌^◌, ◌==◌, ℕ, refl, sym, ◌∙◌, ap, subst, arith, Bool, true, false, List, [], ◌∷◌, length}
+use Rattle.std.specs.Prelude.{cond, is_some, nat_eq, nat_lt, not, Option, Some, None, Result, Ok, Err}
 use Rattle.std.specs.Bool.{MatchBool}
 use Rattle.std.specs.Int.{bit_at}
 use Rattle.std.specs.List.{find}
@@ -48,13 +48,12 @@ use Rattle.task_queue.specs.Queue.{chosen, is_ready, place_of, ready_word, slot 
 use Rattle.task_queue.specs.declared.queue.Place.{Place}
 use Rattle.world_state.specs.Engine.{EngineEvent}
 use Rattle.world_state.specs.Path.{PathState, behind_path, holder, runs}
-use Rattle.world_state.specs.Ties.{AreTied, HoldsJob, TagRuns, is_queued, queued_of, words_of}
-use Rattle.world_state.specs.Work.{hit_waits, hits_left, left_on_path, ticks_left, work_left}
+use Rattle.world_state.specs.Ties.{AreTied, HoldsJob, TagRuns, is_queued, words_of}
+use Rattle.world_state.specs.Work.{left_on_path, ticks_left}
 use Rattle.fall_laws.specs.Falls.{IsEnding}
 use Rattle.fall_laws.proofs.Charges.{Charges, command_charges}
 use Rattle.host_falls.proofs.Crossings.{after_is, heard_crosses}
 use Rattle.fall_laws.proofs.Engines.{IsRunning, Leaves, called_falls, goes_falls, host_of, phase_waits, rung_below, waits_most, work_after, works_falls}
-use Rattle.host_falls.proofs.Numbers.{words_left}
 use Rattle.fall_laws.proofs.Shapes.{along}
 use Rattle.fall_laws.proofs.Shapes.Shape.{Stops}
 use Rattle.fall_laws.proofs.Slots.{remembered_most, tasks_left, todo, todo_at}

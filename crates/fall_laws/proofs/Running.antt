@@ -1,9 +1,8 @@
 -- Each event of the engine in a run that isn't over leaves less to do.
-use Rattle.std.proofs.Common.{◌≡◌, ◌<◌, ◌≤◌, ◌+◌, ℕ, refl, sym, ◌∙◌, ap, arith, Bool, true, false}
-use Rattle.std.specs.Prelude.{cond, is_some, Option, Some, None}
+use Rattle.std.proofs.Common.{◌≡◌, ◌<◌, ◌≤◌, ◌+◌, refl, sym, ◌∙◌, ap, Bool, true, false}
+use Rattle.std.specs.Prelude.{cond, is_some, Option, None}
 use Rattle.std.proofs.lemmas.Bool.{false≢true}
 use Rattle.array_edge.specs.Array.{ArrayState}
-use Rattle.bus_link.specs.Script.{Script}
 use Rattle.card_core.specs.declared.phase.Phase.{Phase}
 use Rattle.card_link.specs.Behind.{Behind, behind}
 use Rattle.cq_engine.proofs.Places.{length-remembered}
@@ -14,7 +13,7 @@ use Rattle.cq_regs.specs.declared.slots.Progress.TheVariants.{Active}
 use Rattle.cq_schedule.specs.Held.{remembered}
 use Rattle.cq_schedule.specs.Order.{first_at}
 use Rattle.drv_core.specs.Work.{has_work, is_noticed, is_possible, work_of}
-use Rattle.drv_core.specs.declared.work.Work.TheVariants.{Recover, Collect, Fail, Issue}
+use Rattle.drv_core.specs.declared.work.Work.TheVariants.{Collect, Fail, Issue}
 use Rattle.drv_jobs.specs.Standings.{Standings}
 use Rattle.drv_recover.specs.declared.recovery.RecoveryState.{RecoveryState}
 use Rattle.drv_recover.specs.declared.recovery.RecoveryState.TheVariants as driver

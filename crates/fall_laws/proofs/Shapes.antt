@@ -1,11 +1,11 @@
 -- What an event of the engine makes of its tasks: less is left of them, the queue was polled, the timer ticked, or the engine stopped.
-use Rattle.std.proofs.Common.{◌≡◌, ◌≢◌, ◌<◌, ◌≤◌, ◌+◌, ◌-◌, ◌^◌, ◌==◌, ◌&&◌, ◌||◌, ℕ, length, refl, sym, ◌∙◌, ap, subst, arith, inl, inr}
-use Rattle.std.specs.Prelude.{Bool, true, false, not, nat_lt, Option, Some, None, slice_set, cond, Result, Ok, Err, List}
+use Rattle.std.proofs.Common.{◌≡◌, ◌<◌, ◌≤◌, ◌+◌, ◌==◌, ◌&&◌, ℕ, length, refl, sym, ◌∙◌, ap, subst, arith, inl, inr}
+use Rattle.std.specs.Prelude.{Bool, true, false, not, Option, Some, None, slice_set, cond, Result, Ok, Err, List}
 use Rattle.std.specs.Bool.{MatchBool}
-use Rattle.std.specs.Option.{IsSomeAnd, option_map}
+use Rattle.std.specs.Option.{option_map}
 use Rattle.std.proofs.lemmas.Bool.{false≢true}
 use Rattle.host_mem.specs.Memory.{Memory}
-use Rattle.bus_link.specs.Link.{Call, is_poll}
+use Rattle.bus_link.specs.Link.{is_poll}
 use Rattle.bus_link.specs.declared.link.Cause.{Cause}
 use Rattle.bus_link.specs.declared.link.Cause.TheVariants.{Bus as BusFault, Response, Dark as NoPower}
 use Rattle.bus_link.specs.declared.link.LinkEnd.{LinkEnd}
@@ -21,27 +21,24 @@ use Rattle.cq_desc.specs.Task.{task_of, task_read}
 use Rattle.cq_words.proofs.FieldLaws.{field_of-lt}
 use Rattle.cq_words.specs.Table.{is_set, number_in}
 use Rattle.cq_regs.specs.declared.slots.Progress.{Progress}
-use Rattle.cq_regs.specs.declared.slots.Progress.TheVariants.{Idle, Rung, Named, Sent, Ready, Active}
+use Rattle.cq_regs.specs.declared.slots.Progress.TheVariants.{Rung, Named, Ready, Active}
 use Rattle.cq_regs.specs.declared.slots.Ringed.{Ringed}
 use Rattle.cq_regs.specs.State.{Registers}
-use Rattle.cq_regs.specs.Slots.{advanced, made_ready, progress_of, without}
-use Rattle.cq_regs.specs.Effects.{completed, moved_on, notified}
+use Rattle.cq_regs.specs.Slots.{advanced, progress_of, without}
+use Rattle.cq_regs.specs.Effects.{completed, moved_on}
 use Rattle.cq_task.specs.declared.list.TaskList.{TaskList}
 use Rattle.cq_task.specs.declared.slot.DataTask.{DataTask}
-use Rattle.cq_task.specs.declared.slot.DropCause.{DropCause}
-use Rattle.cq_task.specs.declared.slot.SlotTask.{SlotTask}
-use Rattle.cq_task.specs.declared.slot.SlotTask.TheVariants.{Direct as DirectTask, Data}
+use Rattle.cq_task.specs.declared.slot.SlotTask.TheVariants.{Data}
 use Rattle.cq_task.specs.Meaning.{Means, MeansData, MeansDirect}
 use Rattle.cq_task.specs.Place.{chain_of, first_word, is_direct}
 use Rattle.cq_schedule.specs.declared.held.HeldTask.{HeldTask}
 use Rattle.cq_schedule.specs.Held.{Places, held_at, newly_held, with_block}
-use Rattle.cq_engine.specs.declared.did.Did.{Did}
 use Rattle.cq_engine.specs.declared.did.Did.TheVariants.{Finished, Sent as SentCommand, Stopped}
-use Rattle.cq_engine.specs.Words.{command_error, data_error, direct_of, execute_of, has_error, is_masked, params_of}
-use Rattle.cq_engine.specs.Outcome.{Host, Outcome, heard, judged, responded, stop, stopped_with, with_regs, word_in}
-use Rattle.cq_engine.specs.After.{addressed, after_address, after_block, after_close, after_command, after_direct, after_execute, after_params, direct_done, direct_ended, direct_heard, dropped, executed, finished, led_on, named, phase_ended}
+use Rattle.cq_engine.specs.Words.{command_error, direct_of, execute_of, has_error, is_masked, params_of}
+use Rattle.cq_engine.specs.Outcome.{Host, Outcome, responded, stop, stopped_with, with_regs}
+use Rattle.cq_engine.specs.After.{addressed, after_address, after_block, after_close, after_command, after_direct, after_execute, after_params, direct_done, direct_heard, executed, finished, led_on, named, phase_ended}
 use Rattle.cq_engine.proofs.Places.{set-other, set-same}
-use Rattle.cq_engine.proofs.SlotLaws.{IsSame, advanced-other, completes, without-other, without-same}
+use Rattle.cq_engine.proofs.SlotLaws.{advanced-other, completes, without-other, without-same}
 use Rattle.fall_laws.proofs.Slots.{advanced_less, blocks_in, moved_in, one_less, tasks_left, todo, todo_at, without_less}
 
 abbrev pub is_bus : Cause → Bool

@@ -1,18 +1,15 @@
 -- A tick of the timer after which nothing is counted, and what the engine does at all.
-use Rattle.std.proofs.Common.{◌≡◌, ◌≢◌, ◌⊎◌, ◌<◌, ◌≤◌, ◌+◌, ◌-◌, ◌*◌, ◌^◌, ◌==◌, ◌&&◌, ◌||◌, ◌/◌, ◌%◌, ℕ, refl, sym, ◌∙◌, ap, subst, arith, Bool, true, false, List, [], length, min, inl, inr}
-use Rattle.std.specs.Prelude.{cond, is_some, nat_le, not, Option, Some, None, Result, Ok, Err}
+use Rattle.std.proofs.Common.{◌≡◌, ◌⊎◌, ◌<◌, ◌≤◌, ◌+◌, ◌*◌, ◌==◌, ◌&&◌, ◌||◌, ℕ, refl, sym, ◌∙◌, ap, subst, arith, Bool, true, false, [], inl, inr}
+use Rattle.std.specs.Prelude.{cond, nat_le, not, Option}
 use Rattle.std.specs.Int.{bit_at}
 use Rattle.std.proofs.lemmas.Bool.{eqb-true, false≢true}
 use Rattle.array_edge.specs.Array.{ArrayState}
-use Rattle.card_core.specs.Card.{CardState}
 use Rattle.card_core.specs.declared.phase.Phase.{Phase}
 use Rattle.card_link.specs.Behind.{Behind, behind}
 use Rattle.card_link.specs.Made.{CardMade}
-use Rattle.bus_link.specs.Script.{Script}
-use Rattle.cq_engine.proofs.Places.{length-remembered}
 use Rattle.cq_engine.proofs.SlotLaws.{ticks}
 use Rattle.cq_engine.specs.Event.{Does}
-use Rattle.cq_engine.specs.Outcome.{Holding, Host, Outcome}
+use Rattle.cq_engine.specs.Outcome.{Outcome}
 use Rattle.cq_engine.specs.declared.did.Did.{Did}
 use Rattle.cq_regs.specs.Coalesce.{ic_written, one_more, reaches, restarted}
 use Rattle.cq_regs.specs.Effects.{at_reset, noticed_if, raised, task_complete, ticked_in, with_coalescing}
@@ -22,16 +19,15 @@ use Rattle.cq_regs.specs.declared.coalesce.Coalescing.{Coalescing}
 use Rattle.cq_schedule.proofs.Idle.{idle_exactly, tick_exactly}
 use Rattle.cq_schedule.specs.Held.{remembered}
 use Rattle.cq_schedule.specs.Meaning.{rests}
-use Rattle.cq_schedule.specs.Order.{first_at}
 use Rattle.cq_schedule.specs.declared.rules.Due.{Due}
 use Rattle.cq_schedule.specs.declared.rules.Due.TheVariants.{Rest, Tick}
 use Rattle.cq_words.specs.Fields.{field_of}
-use Rattle.drv_core.specs.SetUp.{coalescing_word, configuration_word}
+use Rattle.drv_core.specs.SetUp.{configuration_word}
 use Rattle.drv_core.specs.Work.{has_work}
 use Rattle.world_state.specs.Engine.{EngineEvent}
 use Rattle.world_state.specs.Path.{PathState, behind_path, is_busy, plan_of}
 use Rattle.world_state.specs.Ties.{AreTied}
-use Rattle.world_state.specs.Work.{issued, left_on_path, ticks_left, waiting, work_left}
+use Rattle.world_state.specs.Work.{issued, left_on_path, ticks_left, waiting}
 use Rattle.fall_laws.proofs.Engines.{IsRunning, Leaves, goes_falls, quiet_waits}
 use Rattle.host_falls.proofs.Hosting.{same_hits, same_words}
 use Rattle.host_falls.proofs.Recovering.{idle_work}

@@ -1,6 +1,6 @@
 -- Where the host has nothing to do and no slot is rung, a request that has no answer waits for the timer.
-use Rattle.std.proofs.Common.{◌≡◌, ◌≢◌, ◌⊎◌, ◌<◌, ◌≤◌, ◌+◌, ◌-◌, ◌^◌, ◌==◌, ◌&&◌, ◌||◌, ℕ, zero, suc, refl, sym, ◌∙◌, ap, subst, arith, Bool, true, false, List, [], ◌∷◌, length, inl, inr}
-use Rattle.std.specs.Prelude.{cond, count_by, if◌then◌else◌, is_none, is_ok, is_some, nat_eq, nat_lt, not, MatchOption, Option, Some, None, Result, Ok, Err}
+use Rattle.std.proofs.Common.{◌≡◌, ◌⊎◌, ◌<◌, ◌≤◌, ◌+◌, ◌==◌, ◌&&◌, ◌||◌, ℕ, zero, suc, refl, sym, ◌∙◌, ap, arith, Bool, true, false, List, [], ◌∷◌, length, inl, inr}
+use Rattle.std.specs.Prelude.{cond, is_none, is_ok, is_some, nat_eq, nat_lt, not, MatchOption, Option, Some, None, Result, Ok, Err}
 use Rattle.std.specs.Int.RustNames.{bit_and}
 use Rattle.std.specs.List.{find, list_any, range_with_len}
 use Rattle.std.specs.Option.{ok_or}
@@ -11,10 +11,9 @@ use Rattle.std.proofs.lemmas.Nat.Bits.{bit_at-zero}
 use Rattle.storage_model.specs.Plan.{is_direct}
 use Rattle.cq_regs.specs.Slots.{has_bit, is_rung, progress_of}
 use Rattle.cq_regs.specs.State.{Registers}
-use Rattle.cq_regs.specs.declared.slots.Ringed.{Ringed}
 use Rattle.drv_core.specs.State.{is_recovering}
 use Rattle.drv_core.specs.Work.{has_work, is_noticed, is_possible, work_of}
-use Rattle.drv_core.specs.declared.work.Work.TheVariants.{Recover, Collect, Fail, Issue}
+use Rattle.drv_core.specs.declared.work.Work.TheVariants.{Collect, Fail, Issue}
 use Rattle.drv_jobs.proofs.CountLaws.{lowest}
 use Rattle.drv_jobs.proofs.NextLaws.{due-waits}
 use Rattle.drv_jobs.specs.Next.{due_of, free_tag, tag_for, with_tag}

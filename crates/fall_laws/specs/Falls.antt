@@ -1,5 +1,5 @@
 -- What is left to do falls with each event of the engine that a run chooses, and with each loss of power, whatever the array tells.
-use Rattle.std.specs.Prelude.{◌≡◌, ◌<◌, ◌≤◌, ◌+◌, ℕ, true, false, is_some, length, List, [], Option}
+use Rattle.std.specs.Prelude.{◌≡◌, ◌<◌, ◌≤◌, ◌+◌, ℕ, true, false, is_some, length, [], Option}
 use Rattle.array_edge.specs.Array.{ArrayState}
 use Rattle.bus_link.specs.Script.{Script}
 use Rattle.bus_link.specs.declared.link.Cause.TheVariants.{Response}

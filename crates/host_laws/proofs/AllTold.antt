@@ -1,5 +1,5 @@
 -- Every event of the host is one of the machine's host.
-use Rattle.std.proofs.Common.{◌≡◌, ◌∙◌, Bool, true, false, Result, Ok, Err, refl, ap, sym}
+use Rattle.std.proofs.Common.{◌≡◌, true, false, Result, Ok, Err, refl}
 use Rattle.std.proofs.lemmas.Bool.{false≢true}
 use Rattle.storage_model.specs.declared.faults.Letter.TheVariants.{Host as HostActs}
 use Rattle.array_edge.specs.Array.{ArrayState}

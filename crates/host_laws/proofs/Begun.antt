@@ -1,27 +1,24 @@
 -- The host's events of the machine, over any state: with no line, with one, and with the two of a stop.
-use Rattle.std.proofs.Common.{◌≡◌, ◌≢◌, ◌∙◌, ◌==◌, ◌&&◌, ◌||◌, ℕ, Bool, true, false, cond, not, List, [], ◌∷◌, Option, None, Some, min, refl, ap, sym, subst, if◌then◌else◌}
+use Rattle.std.proofs.Common.{◌≡◌, ◌∙◌, ◌&&◌, ◌||◌, ℕ, Bool, true, false, cond, not, [], ◌∷◌, None, refl, ap, sym, subst, if◌then◌else◌}
 use Rattle.std.proofs.lemmas.Bool.{false≢true}
 use Rattle.storage_model.specs.declared.faults.BusKind.{BusKind}
-use Rattle.storage_model.specs.declared.faults.BusKind.TheVariants.{Lost, NoResp}
 use Rattle.storage_model.specs.declared.faults.Letter.TheVariants.{Host as HostActs}
 use Rattle.storage_model.specs.declared.trace.Item.{Item}
 use Rattle.storage_model.specs.declared.trace.Item.TheVariants.{Issue, Recover, Discard as DiscardLine, Bus as BusLine, Fault, Refused}
 use Rattle.storage_model.specs.declared.trace.Limit.{Limit}
 use Rattle.storage_model.specs.declared.trace.Why.{Why}
-use Rattle.storage_machine.specs.Commands.{due, hit, is_calm, is_gone, is_kind, is_none_due, next_number}
+use Rattle.storage_machine.specs.Commands.{due, hit, is_calm}
 use Rattle.storage_machine.specs.Host.{has_work, is_fault_of, is_irq_due, is_silent, is_stopped, next_issue, recovery_step}
-use Rattle.storage_machine.specs.declared.commands.DueCommand.TheVariants.{Idle}
 use Rattle.storage_machine.specs.declared.state.Event.{Event}
 use Rattle.storage_machine.specs.declared.state.Event.TheVariants.{Untold, Told}
 use Rattle.storage_machine.specs.declared.state.Owed.{Owed}
 use Rattle.storage_machine.specs.declared.state.Owed.TheVariants.{Nothing}
-use Rattle.storage_machine.specs.declared.state.Recovery.{Recovery}
-use Rattle.storage_machine.specs.declared.state.Recovery.TheVariants.{Calm, Halted, Cleared}
+use Rattle.storage_machine.specs.declared.state.Recovery.TheVariants.{Cleared}
 use Rattle.storage_machine.specs.declared.state.State.{State}
-use Rattle.storage_order.specs.Events.{Fits, Happens, Lasts, Makes, More, closed, end_rule, ended, ended_by, goes_on, is_over, is_untold, rule_of_end}
+use Rattle.storage_order.specs.Events.{Fits, Happens, Lasts, Makes, closed, end_rule, ended, ended_by, goes_on, rule_of_end}
 use Rattle.trace_effects.specs.Effects.{after_bus, after_discard, after_fault, after_issue, after_recover, begun, effect}
-use Rattle.trace_rules.specs.Lines.{bus_by_owed, bus_holds, discard_holds, fault_holds, holds, is_fault, is_for, is_heard, is_missed_now, is_pair, is_recover_owed, is_refusal, line_rule, recover_holds, refused_holds}
-use Rattle.trace_rules.specs.Steps.{is_cleared, is_cut, is_first_work, is_line_of, is_nothing, stands_in}
+use Rattle.trace_rules.specs.Lines.{bus_by_owed, bus_holds, discard_holds, fault_holds, holds, is_for, is_heard, is_missed_now, is_pair, is_recover_owed, line_rule, recover_holds, refused_holds}
+use Rattle.trace_rules.specs.Steps.{is_cleared, is_cut, is_first_work, is_line_of, is_nothing}
 
 -- the host's event, where it has work that is told
 abbrev pub told : State → State

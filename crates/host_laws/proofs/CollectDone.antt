@@ -1,41 +1,35 @@
 -- What an interrupt tells, with its answers.
-use Rattle.std.proofs.Common.{◌≡◌, ◌≢◌, ◌∙◌, ◌++◌, ◌+◌, ◌-◌, ◌<◌, ◌≤◌, ◌==◌, ◌&&◌, ◌||◌, ℕ, zero, suc, Bool, true, false, cond, not, List, [], ◌∷◌, Option, None, Some, IfSome, MatchOption, map, min, flat_map, option_map, is_some, nat_lt, nat_eq, refl, ap, sym, subst, arith, eq-eqb, lt-ltb, if◌then◌else◌}
+use Rattle.std.proofs.Common.{◌≡◌, ◌∙◌, ◌+◌, ◌<◌, ◌==◌, ◌&&◌, ◌||◌, ℕ, Bool, true, false, not, List, [], ◌∷◌, Option, None, Some, IfSome, min, flat_map, option_map, refl, ap, sym, subst, eq-eqb, lt-ltb, if◌then◌else◌}
 use Rattle.std.proofs.lemmas.Bool.{false≢true, and_parts}
 use Rattle.std.specs.List.{list_any, range_with_len}
 use Rattle.std.specs.Option.{option_map_or}
-use Rattle.storage_model.specs.declared.block.Block.{Block}
 use Rattle.storage_model.specs.declared.faults.Letter.TheVariants.{Host as HostActs}
 use Rattle.storage_model.specs.declared.trace.Item.{Item}
 use Rattle.storage_model.specs.declared.trace.Item.TheVariants.{Irq}
 use Rattle.storage_machine.specs.Commands.{is_calm, is_running}
 use Rattle.storage_machine.specs.Host.{has_work, is_irq_due, is_silent}
-use Rattle.storage_machine.specs.Slots.{asks, asks_of, changed, changed_from, changed_slots, changed_task, has, mask_of}
+use Rattle.storage_machine.specs.Slots.{asks, changed, changed_from, changed_slots, has, mask_of}
 use Rattle.storage_machine.specs.declared.slots.Change.TheVariants.{Collect}
 use Rattle.storage_machine.specs.declared.slots.Question.TheVariants.{Collected as IsCollected, Done as IsDone}
 use Rattle.storage_machine.specs.declared.state.Event.TheVariants.{Untold}
 use Rattle.storage_machine.specs.declared.state.Owed.{Owed}
 use Rattle.storage_machine.specs.declared.state.Owed.TheVariants.{Answers, Nothing}
-use Rattle.storage_machine.specs.declared.state.Recovery.{Recovery}
 use Rattle.storage_machine.specs.declared.state.State.{State}
 use Rattle.storage_machine.specs.declared.state.Standing.TheVariants as standing
-use Rattle.storage_machine.specs.declared.state.Stop.{Stop}
 use Rattle.storage_machine.specs.declared.state.Stop.TheVariants as stop
 use Rattle.storage_machine.specs.declared.state.Task.{Task}
-use Rattle.storage_order.specs.Events.{Fits, Happens, Lasts, More, closed, is_over, is_untold}
+use Rattle.storage_order.specs.Events.{Happens, Lasts, More, closed, is_over, is_untold}
 use Rattle.trace_effects.specs.Effects.{after_irq, answers_left, effect}
 use Rattle.trace_rules.specs.Lines.{holds, irq_holds}
 use Rattle.array_edge.specs.Array.{ArrayState}
 use Rattle.bus_link.specs.declared.link.Cause.{Cause}
 use Rattle.bus_link.specs.declared.link.Cause.TheVariants.{Bus as BusFault, Response, Dark}
-use Rattle.cq_regs.specs.Slots.{has_bit, is_rung, progress_of}
-use Rattle.cq_regs.specs.declared.slots.Progress.{Progress}
+use Rattle.cq_regs.specs.Slots.{is_rung, progress_of}
 use Rattle.cq_schedule.specs.Held.{slots}
 use Rattle.cut_order.specs.Order.{OrderState}
 use Rattle.drv_core.specs.Event.{Collects}
-use Rattle.drv_core.specs.State.{is_recovering}
 use Rattle.drv_core.specs.Work.{is_noticed, is_possible, work_of}
 use Rattle.drv_core.specs.declared.act.Act.{Act}
-use Rattle.drv_core.specs.declared.act.Act.TheVariants.{Collected as CollectedAct}
 use Rattle.drv_core.specs.declared.work.Work.TheVariants.{Collect as CollectWork}
 use Rattle.drv_jobs.proofs.HolderLaws.{fewer-freed_from}
 use Rattle.drv_jobs.specs.Changes.{faults_of}
@@ -57,12 +51,12 @@ use Rattle.host_laws.proofs.Same.{agrees_same, range_same, way_active}
 use Rattle.host_laws.proofs.Tags.{leaves_other, none_collected, none_of, task_with}
 use Rattle.host_laws.proofs.TiesKept.{collects_to}
 use Rattle.world_state.specs.Host.{HostEvent, answer_at, collect_lines, host_lines, moment_of}
-use Rattle.world_state.specs.Laws.{HostLaws, StateLaws}
+use Rattle.world_state.specs.Laws.{StateLaws}
 use Rattle.world_state.specs.Path.{PathState, holder, job, layout, moved, under_way}
-use Rattle.world_state.specs.Reading.{Context, blocks_held, data_by, data_of, is_done, recovery_of, standing_at, standing_of, state_of, stop_by, stop_by_word, stop_of, task_at, tasks_of}
-use Rattle.world_state.specs.Stands.{Agrees, AreNamed, HasReadSoFar, marks_moved, marks_moved_by, names, puts_by}
+use Rattle.world_state.specs.Reading.{Context, blocks_held, data_by, data_of, is_done, standing_at, standing_of, state_of, stop_by, stop_by_word, stop_of, task_at, tasks_of}
+use Rattle.world_state.specs.Stands.{Agrees, AreNamed, HasReadSoFar, marks_moved_by, names, puts_by}
 use Rattle.world_state.specs.Ties.{AreTied, NamesRung, named_by}
-use Rattle.world_state.specs.Told.{Tells, Told}
+use Rattle.world_state.specs.Told.{Tells}
 
 -- the collected tasks: one at least, where one was done
 has_if : (done collected rest rest' : Bool) → (done ≡ true → collected ≡ true) → (rest ≡ true → rest' ≡ true) → (done || rest) ≡ true → (collected || rest') ≡ true

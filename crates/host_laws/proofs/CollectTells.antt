@@ -1,32 +1,27 @@
 -- The machine between the answers of an interrupt: the tags below some tag have theirs.
-use Rattle.std.proofs.Common.{◌≡◌, ◌≢◌, ◌∙◌, ◌++◌, ◌+◌, ◌-◌, ◌<◌, ◌≤◌, ◌==◌, ◌&&◌, ◌||◌, ℕ, zero, suc, Bool, true, false, cond, not, List, [], ◌∷◌, Option, None, Some, MatchOption, length, map, drop, option_map, nat_lt, nat_eq, get_or, set, slice_get, slice_set, refl, ap, sym, subst, arith, eqb-true, eq-eqb, lt-ltb, ltb-true, ltb-false, if◌then◌else◌}
-use Rattle.std.proofs.lemmas.Bool.{eqb-false, false≢true}
-use Rattle.std.proofs.lemmas.List.FromFn.{get_or-map-range_with_len, length-map-range_with_len}
-use Rattle.std.specs.List.{list_any, range_with_len}
+use Rattle.std.proofs.Common.{◌≡◌, ◌≢◌, ◌∙◌, ◌+◌, ◌<◌, ◌==◌, ◌&&◌, ℕ, suc, Bool, true, false, List, [], Option, None, Some, map, option_map, nat_lt, slice_set, refl, ap, sym, subst, arith, eqb-true, lt-ltb, if◌then◌else◌}
+use Rattle.std.proofs.lemmas.Bool.{eqb-false}
+use Rattle.std.proofs.lemmas.List.FromFn.{get_or-map-range_with_len}
+use Rattle.std.specs.List.{range_with_len}
 use Rattle.storage_model.specs.declared.block.Block.{Block}
-use Rattle.storage_model.specs.declared.plan.Job.{Job}
-use Rattle.storage_machine.specs.Slots.{asks, changed, changed_from, changed_slots, has, id_of, slot_at, tag_of}
+use Rattle.storage_machine.specs.Slots.{asks, changed, changed_slots, has, id_of, slot_at, tag_of}
 use Rattle.storage_machine.specs.declared.slots.Change.TheVariants.{Answer, Collect}
-use Rattle.storage_machine.specs.declared.slots.Question.TheVariants.{Collected as IsCollected, Done as IsDone}
+use Rattle.storage_machine.specs.declared.slots.Question.TheVariants.{Collected as IsCollected}
 use Rattle.storage_machine.specs.declared.state.Event.TheVariants.{Untold}
-use Rattle.storage_machine.specs.declared.state.Owed.{Owed}
-use Rattle.storage_machine.specs.declared.state.Owed.TheVariants.{Answers, Sectors}
-use Rattle.storage_machine.specs.declared.state.Standing.{Standing}
 use Rattle.storage_machine.specs.declared.state.Standing.TheVariants as standing
 use Rattle.storage_machine.specs.declared.state.State.{State}
 use Rattle.storage_machine.specs.declared.state.Task.{Task}
 use Rattle.trace_effects.specs.Effects.{answers_left}
 use Rattle.cq_regs.specs.Slots.{progress_of}
-use Rattle.cq_schedule.specs.Held.{slots}
 use Rattle.cut_order.specs.Order.{OrderState}
 use Rattle.drv_jobs.specs.Sound.{IsSound}
 use Rattle.drv_recover.specs.declared.recovery.RecoveryState.TheVariants as driver
 use Rattle.host_laws.proofs.FailTells.{changed_map}
 use Rattle.host_laws.proofs.Recovered.{at_place}
 use Rattle.host_laws.proofs.Same.{range_same, range_set}
-use Rattle.host_laws.proofs.Tags.{answer_leaves, answer_takes, below_more, below_that, collects_done, first_of, leaves_other, none_collected, none_of, not_below, some_of, task_with}
-use Rattle.world_state.specs.Path.{PathState, holder, job}
-use Rattle.world_state.specs.Reading.{Context, data_by, data_of, is_done, standing_of, state_of, task_at, tasks_of}
+use Rattle.host_laws.proofs.Tags.{answer_leaves, answer_takes, below_more, below_that, first_of, leaves_other, none_collected, not_below, some_of, task_with}
+use Rattle.world_state.specs.Path.{PathState, holder}
+use Rattle.world_state.specs.Reading.{Context, data_by, is_done, standing_of, state_of, task_at}
 
 -- the path with no recovery under way, by its parts
 abbrev pub calm : PathState → PathState

@@ -1,5 +1,5 @@
 -- The lines of an interrupt, one answer after the other.
-use Rattle.std.proofs.Common.{◌≡◌, ◌≢◌, ◌∙◌, ◌++◌, ◌+◌, ◌-◌, ◌<◌, ◌≤◌, ◌==◌, ◌&&◌, ◌||◌, ℕ, zero, suc, Bool, true, false, cond, not, List, [], ◌∷◌, Option, None, Some, MatchOption, length, map, drop, flat_map, option_map, nat_lt, nat_eq, get_or, slice_get, slice_set, refl, ap, sym, subst, arith, eqb-true, eq-eqb, lt-ltb, ltb-true, ltb-false, add-one, bytes_eq, if◌then◌else◌}
+use Rattle.std.proofs.Common.{◌≡◌, ◌∙◌, ◌++◌, ◌+◌, ◌<◌, ◌≤◌, ◌&&◌, ℕ, zero, suc, Bool, true, false, List, [], ◌∷◌, Option, None, Some, MatchOption, length, map, drop, flat_map, nat_lt, get_or, slice_get, slice_set, refl, ap, sym, subst, arith, eq-eqb, lt-ltb, add-one, if◌then◌else◌}
 use Rattle.std.proofs.lemmas.Bool.{false≢true}
 use Rattle.std.proofs.lemmas.List.FromFn.{get_or-map-range_with_len, length-map-range_with_len}
 use Rattle.std.proofs.lemmas.Slice.Eq.{bytes_eq-Decides}
@@ -8,11 +8,10 @@ use Rattle.storage_model.specs.declared.block.Block.{Block}
 use Rattle.storage_model.specs.declared.plan.Job.{Job}
 use Rattle.storage_model.specs.declared.plan.Job.TheVariants.{Read as ReadJob, Write as WriteJob, Flush as FlushJob, Barrier as BarrierJob, Status as StatusJob}
 use Rattle.storage_model.specs.declared.trace.Item.{Item}
-use Rattle.storage_model.specs.declared.trace.Item.TheVariants.{Irq, Done, Read, Sector, Status}
+use Rattle.storage_model.specs.declared.trace.Item.TheVariants.{Done, Read, Sector, Status}
 use Rattle.storage_machine.specs.Cuts.{same_block, shows}
 use Rattle.storage_machine.specs.Jobs.{is_read, is_status, job_of}
-use Rattle.storage_machine.specs.Slots.{changed_slots, has, id_of, slot_at, tag_of}
-use Rattle.storage_machine.specs.declared.slots.Change.TheVariants.{Answer}
+use Rattle.storage_machine.specs.Slots.{id_of, slot_at, tag_of}
 use Rattle.storage_machine.specs.declared.slots.Question.TheVariants.{Collected as IsCollected}
 use Rattle.storage_machine.specs.declared.state.Event.{Event}
 use Rattle.storage_machine.specs.declared.state.Event.TheVariants.{Untold}
@@ -20,8 +19,8 @@ use Rattle.storage_machine.specs.declared.state.Owed.{Owed}
 use Rattle.storage_machine.specs.declared.state.Owed.TheVariants.{Answers, Nothing, Sectors}
 use Rattle.storage_machine.specs.declared.state.State.{State}
 use Rattle.storage_order.specs.Events.{Fits, More, goes_on}
-use Rattle.trace_effects.specs.Effects.{after_answer, after_read, after_sector, answers_left, effect, over, sectors_from, shown_on}
-use Rattle.trace_rules.specs.Lines.{done_holds, data_on, holds, is_answer_of, is_answers, is_for, is_number, line_rule, read_holds, sector_by_owed, sector_holds, status_holds}
+use Rattle.trace_effects.specs.Effects.{after_answer, after_read, after_sector, answers_left, effect, over, sectors_from}
+use Rattle.trace_rules.specs.Lines.{done_holds, data_on, holds, is_answer_of, is_for, line_rule, read_holds, sector_by_owed, sector_holds, status_holds}
 use Rattle.trace_rules.specs.Steps.{is_first_work, stands_in}
 use Rattle.cut_order.specs.Order.{OrderState}
 use Rattle.drv_jobs.specs.Sound.{IsSound}
@@ -35,7 +34,7 @@ use Rattle.piece_data.specs.Data.{block_of}
 use Rattle.host_laws.proofs.Tags.{not_below, not_lower}
 use Rattle.host_laws.proofs.CollectTells.{answering, answering_same, calm, data_all, data_left, data_same, data_shown, next_collected, next_has, next_id, slots_answered, slots_left}
 use Rattle.world_state.specs.Host.{answer_at, answer_of_holder, answer_of_job}
-use Rattle.world_state.specs.Path.{PathState, holder, job, layout, plan_of}
+use Rattle.world_state.specs.Path.{PathState, holder, job, layout}
 use Rattle.world_state.specs.Reading.{Context, blocks_held, data_by, is_done, state_of}
 use Rattle.world_state.specs.Ties.{AreTied, IsIssued, IsVacant}
 

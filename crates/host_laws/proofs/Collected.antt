@@ -1,8 +1,7 @@
 -- The ties after the completed tasks are collected.
-use Rattle.std.proofs.Common.{◌≡◌, ◌≢◌, ◌∙◌, ap₂, ◌⊎◌, ◌<◌, ◌≤◌, ◌+◌, ◌-◌, ◌^◌, ◌==◌, ◌&&◌, ℕ, zero, suc, Bool, true, false, cond, not, List, [], ◌∷◌, Option, None, Some, IfSome, MatchOption, IsSomeAnd, is_some, find, nat_eq, nat_lt, inl, inr, refl, ap, sym, subst, arith, ltb-true, ltb-false}
+use Rattle.std.proofs.Common.{◌≡◌, ◌∙◌, ◌<◌, ◌^◌, ◌&&◌, ℕ, Bool, true, false, cond, not, Option, None, Some, IfSome, MatchOption, IsSomeAnd, find, nat_eq, nat_lt, refl, ap, sym, subst, ltb-true, ltb-false}
 use Rattle.std.proofs.lemmas.Bool.{false≢true}
-use Rattle.std.proofs.lemmas.Nat.Bits.{bit_at-zero, bit_at_above}
-use Rattle.std.specs.Int.{bit_at}
+use Rattle.std.proofs.lemmas.Nat.Bits.{bit_at_above}
 use Rattle.std.specs.Option.{option_map_or}
 use Rattle.storage_machine.specs.Jobs.{is_high}
 use Rattle.cq_regs.specs.Slots.{has_bit, is_rung, progress_of}
@@ -14,7 +13,6 @@ use Rattle.drv_core.specs.State.{is_recovering}
 use Rattle.drv_jobs.proofs.HolderLaws.{fewer-freed_from, holder-freed_first}
 use Rattle.drv_jobs.specs.Changes.{collected, freed_from}
 use Rattle.drv_jobs.specs.Sound.{IsSound}
-use Rattle.drv_jobs.specs.Standings.{holder_of}
 use Rattle.drv_recover.specs.declared.recovery.RecoveryState.TheVariants as driver
 use Rattle.host_laws.proofs.Failed.{alone_fewer}
 use Rattle.host_laws.proofs.Held.{none_done}
@@ -22,7 +20,7 @@ use Rattle.host_laws.proofs.Paths.{path_at, set_up_cleaned}
 use Rattle.host_laws.proofs.Rings.{find_alike}
 use Rattle.world_state.specs.Path.{PathState, holder, job, plan_of, runs, under_way}
 use Rattle.world_state.specs.Reading.{is_done}
-use Rattle.world_state.specs.Ties.{AreTied, HasQueue, HoldsJob, IsAhead, IsInImage, IsIssued, IsVacant, TagIsTied, TagRuns, ahead, first_of, has_high, is_executable}
+use Rattle.world_state.specs.Ties.{AreTied, HoldsJob, IsAhead, IsInImage, IsIssued, IsVacant, TagIsTied, TagRuns, ahead, first_of, has_high, is_executable}
 
 -- the path after it
 abbrev pub collected_at : PathState → PathState

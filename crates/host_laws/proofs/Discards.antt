@@ -1,5 +1,5 @@
 -- The lines of CMD48 of a recovery.
-use Rattle.std.proofs.Common.{◌≡◌, ◌≢◌, ◌∙◌, ◌⊎◌, ◌+◌, ◌-◌, ◌^◌, ◌<◌, ◌==◌, ◌&&◌, ◌||◌, ℕ, Bool, true, false, cond, not, List, [], ◌∷◌, Option, None, Some, min, option_map, find, length, nat_le, nat_eq, refl, ap, ap₂, sym, subst, arith, eq-eqb, if◌then◌else◌}
+use Rattle.std.proofs.Common.{◌≡◌, ◌≢◌, ◌∙◌, ◌||◌, ℕ, Bool, true, false, cond, not, Option, None, Some, option_map, length, refl, ap, sym, subst, eq-eqb, if◌then◌else◌}
 use Rattle.std.proofs.lemmas.Bool.{false≢true}
 use Rattle.storage_model.specs.declared.faults.BusKind.{BusKind}
 use Rattle.storage_model.specs.declared.faults.BusKind.TheVariants.{Lost, NoResp, Bad, Late}
@@ -11,15 +11,13 @@ use Rattle.storage_machine.specs.declared.commands.DueCommand.{DueCommand}
 use Rattle.storage_machine.specs.declared.commands.DueCommand.TheVariants as machine
 use Rattle.storage_machine.specs.declared.state.Recovery.TheVariants.{Cleared}
 use Rattle.storage_machine.specs.declared.state.State.{State}
-use Rattle.storage_machine.specs.declared.state.Stop.TheVariants as stop
 use Rattle.storage_order.specs.Events.{Happens}
-use Rattle.trace_effects.specs.Effects.{after_bus, after_discard, uses_word, words_used}
-use Rattle.trace_rules.specs.Lines.{is_heard, is_missed, is_missed_now, is_poll}
+use Rattle.trace_effects.specs.Effects.{after_bus, after_discard, words_used}
+use Rattle.trace_rules.specs.Lines.{is_heard, is_missed_now, is_poll}
 use Rattle.array_edge.specs.Array.{ArrayState}
-use Rattle.bus_link.specs.Hits.{befalls, fault_of, hit_of, if_of_kind, raised}
+use Rattle.bus_link.specs.Hits.{befalls, fault_of, if_of_kind, raised}
 use Rattle.bus_link.specs.Script.{Script, armed, struck}
 use Rattle.card_core.specs.Card.{CardState}
-use Rattle.card_link.specs.Made.{hit_on}
 use Rattle.cq_engine.specs.Outcome.{Holding}
 use Rattle.cq_regs.specs.Slots.{has_bit}
 use Rattle.cq_regs.specs.State.{Registers}
@@ -34,7 +32,6 @@ use Rattle.drv_jobs.specs.Standings.{Standings}
 use Rattle.drv_recover.specs.Recovery.{discard_queue}
 use Rattle.drv_recover.specs.declared.recovery.RecoveryState.{RecoveryState}
 use Rattle.drv_recover.specs.declared.recovery.RecoveryState.TheVariants as driver
-use Rattle.drv_recover.specs.declared.recovery.Step.{Step}
 use Rattle.drv_recover.specs.declared.recovery.Step.TheVariants.{Discard, Again}
 use Rattle.host_mem.specs.Memory.{Memory}
 use Rattle.task_queue.specs.Queue.{empty}
@@ -45,12 +42,12 @@ use Rattle.host_laws.proofs.Recovered.{Discarding, cleared_at, done, missed, non
 use Rattle.host_laws.proofs.Recoveries.{event_at, named_at_place, owed_at, placed, recovery_at, running}
 use Rattle.host_laws.proofs.TiesKept.{StepAt, answered_to, missed_to}
 use Rattle.world_state.specs.Host.{HostEvent, host_lines}
-use Rattle.world_state.specs.Laws.{EngineLaws, StateLaws, next_fault}
-use Rattle.world_state.specs.Path.{PathState, behind_path, is_busy, under_way}
+use Rattle.world_state.specs.Laws.{StateLaws, next_fault}
+use Rattle.world_state.specs.Path.{PathState, is_busy, under_way}
 use Rattle.world_state.specs.Reading.{Context, data_of, recovery_of, state_of, tasks_of}
-use Rattle.world_state.specs.Stands.{Agrees, AreNamed, sent_of}
+use Rattle.world_state.specs.Stands.{Agrees, sent_of}
 use Rattle.world_state.specs.Ties.{AreTied}
-use Rattle.world_state.specs.Told.{Tells, Told}
+use Rattle.world_state.specs.Told.{Tells}
 
 -- the fault that befalls CMD48 is one that leaves no response, or none
 lost_kind : (kind : BusKind) → cond (befalls kind discard_queue 0) (Some kind) None ≡ Some Lost → kind ≡ Lost

@@ -1,5 +1,5 @@
 -- The tag that a request is issued with is free, and a direct request is alone.
-use Rattle.std.proofs.Common.{◌≡◌, ◌≢◌, ◌∙◌, ◌⊎◌, ◌<◌, ◌≤◌, ◌+◌, ◌-◌, ◌==◌, ℕ, zero, suc, Bool, true, false, cond, not, List, [], ◌∷◌, Option, None, Some, Result, Ok, Err, is_some, is_none, find, get_or, length, nat_lt, refl, ap, sym, subst, arith, eqb-true, if◌then◌else◌}
+use Rattle.std.proofs.Common.{◌≡◌, ◌∙◌, ◌<◌, ◌+◌, ◌-◌, ℕ, zero, suc, Bool, true, false, cond, List, [], ◌∷◌, Option, None, Some, Ok, Err, is_some, is_none, find, get_or, length, refl, ap, sym, arith, if◌then◌else◌}
 use Rattle.std.proofs.lemmas.Bool.{false≢true}
 use Rattle.std.specs.List.{list_any, range_with_len}
 use Rattle.std.specs.Option.{ok_or}
@@ -11,7 +11,6 @@ use Rattle.drv_jobs.specs.Next.{IsFitting, due_of, free_tag, tag_for}
 use Rattle.drv_jobs.specs.Sound.{IsSound}
 use Rattle.drv_jobs.specs.Standings.{Standings, holder_of, is_any_issued, is_used, is_waiting, job_of}
 use Rattle.drv_jobs.specs.declared.next.Due.{Due}
-use Rattle.drv_jobs.specs.declared.next.Hold.{Hold}
 use Rattle.drv_jobs.specs.declared.next.Hold.TheVariants.{Behind, Full}
 use Rattle.drv_jobs.specs.declared.next.TheConstants.{DIRECT_TAG}
 use Rattle.drv_jobs.proofs.CountLaws.{lowest, lowest-waits}

@@ -1,15 +1,13 @@
 -- The state after a stop: all issued requests wait, but for the one that the stop ends.
-use Rattle.std.proofs.Common.{◌≡◌, ◌≢◌, ◌∙◌, ◌⊎◌, ◌+◌, ◌-◌, ◌<◌, ◌≤◌, ◌==◌, ◌&&◌, ◌||◌, ℕ, zero, suc, Bool, true, false, cond, not, List, [], ◌∷◌, Option, None, Some, fold, get_or, length, map, min, option_map, is_some, slice_set, nat_eq, inl, inr, refl, ap, sym, subst, arith, add-zero, eqb-true, eq-eqb, get_or-set_other, length-set, if◌then◌else◌}
-use Rattle.std.proofs.lemmas.Bool.{eqb-false, false≢true}
+use Rattle.std.proofs.Common.{◌≡◌, ◌≢◌, ◌∙◌, ◌+◌, ◌<◌, ◌==◌, ℕ, zero, suc, Bool, true, false, List, [], ◌∷◌, Option, None, Some, fold, get_or, length, map, option_map, slice_set, refl, ap, sym, subst, arith, add-zero, eqb-true, eq-eqb, get_or-set_other, length-set, if◌then◌else◌}
+use Rattle.std.proofs.lemmas.Bool.{eqb-false}
 use Rattle.std.specs.List.{range_with_len}
-use Rattle.storage_model.specs.declared.block.Block.{Block}
 use Rattle.storage_machine.specs.Slots.{changed, changed_from, changed_slots}
 use Rattle.storage_machine.specs.declared.slots.Change.{Change}
 use Rattle.storage_machine.specs.declared.slots.Change.TheVariants.{Answer, Hold}
 use Rattle.storage_machine.specs.declared.state.Standing.{Standing}
 use Rattle.storage_machine.specs.declared.state.Standing.TheVariants as standing
 use Rattle.storage_machine.specs.declared.state.State.{State}
-use Rattle.storage_machine.specs.declared.state.Stop.TheVariants as stop
 use Rattle.storage_machine.specs.declared.state.Task.{Task}
 use Rattle.trace_effects.specs.Effects.{after_fault, after_recover, waiting_with, with_held}
 use Rattle.bus_link.specs.Script.{Script}
@@ -20,7 +18,6 @@ use Rattle.cq_schedule.specs.Held.{slots}
 use Rattle.cut_order.specs.Order.{OrderState}
 use Rattle.drv_jobs.proofs.HolderLaws.{holder-freed}
 use Rattle.drv_jobs.specs.Changes.{waits_again}
-use Rattle.drv_jobs.specs.Sound.{IsSound}
 use Rattle.drv_jobs.specs.Standings.{Standings, holder_of}
 use Rattle.drv_recover.specs.declared.recovery.RecoveryState.TheVariants as driver
 use Rattle.host_mem.specs.Memory.{Memory}
@@ -28,7 +25,7 @@ use Rattle.host_laws.proofs.Paths.{path_at}
 use Rattle.host_laws.proofs.Recoveries.{no_data}
 use Rattle.host_laws.proofs.Same.{range_same}
 use Rattle.world_state.specs.Path.{PathState, holder}
-use Rattle.world_state.specs.Reading.{Context, data_of, standing_at, state_of, task_at, tasks_of}
+use Rattle.world_state.specs.Reading.{Context, standing_at, state_of, tasks_of}
 
 -- a change of all slots, tag by tag
 pub changed_map : (change : Change) (f : ℕ → Option Task) (a n : ℕ)

@@ -1,5 +1,5 @@
 -- What a stop tells.
-use Rattle.std.proofs.Common.{◌≡◌, ◌≢◌, ◌∙◌, ◌⊎◌, ◌++◌, ◌+◌, ◌-◌, ◌<◌, ◌≤◌, ◌==◌, ◌&&◌, ◌||◌, ℕ, Bool, true, false, cond, not, List, [], ◌∷◌, Option, None, Some, get_or, length, min, is_some, slice_set, nat_eq, inl, inr, refl, ap, sym, subst, arith, eqb-true, eq-eqb, if◌then◌else◌}
+use Rattle.std.proofs.Common.{◌≡◌, ◌≢◌, ◌∙◌, ◌+◌, ◌-◌, ◌==◌, ◌&&◌, ◌||◌, ℕ, Bool, true, false, not, List, [], ◌∷◌, Option, None, Some, length, min, nat_eq, refl, ap, sym, subst, arith, eqb-true, eq-eqb, if◌then◌else◌}
 use Rattle.std.proofs.lemmas.Bool.{eqb-false, false≢true}
 use Rattle.storage_model.specs.declared.faults.Letter.TheVariants.{Host as HostActs}
 use Rattle.storage_model.specs.declared.trace.Item.{Item}
@@ -23,29 +23,27 @@ use Rattle.cut_order.specs.Order.{OrderState}
 use Rattle.drv_core.specs.Event.{Fails}
 use Rattle.drv_core.specs.Judge.{Judged, ended, judged, retried}
 use Rattle.drv_core.specs.State.{is_recovering}
-use Rattle.drv_core.specs.Work.{is_noticed, is_possible, work_of}
+use Rattle.drv_core.specs.Work.{is_possible, work_of}
 use Rattle.drv_core.specs.declared.act.Act.{Act}
-use Rattle.drv_core.specs.declared.act.Act.TheVariants.{Failed}
-use Rattle.drv_core.specs.declared.act.Stop.TheVariants.{Bus, Flash, Range, Retry}
+use Rattle.drv_core.specs.declared.act.Stop.TheVariants.{Bus, Flash, Range}
 use Rattle.drv_core.specs.declared.work.Work.TheVariants.{Fail}
-use Rattle.drv_jobs.proofs.HolderLaws.{fewer-set, holder-freed}
-use Rattle.drv_jobs.specs.Changes.{answered, faulted, faults_of, one_more}
+use Rattle.drv_jobs.proofs.HolderLaws.{fewer-set}
+use Rattle.drv_jobs.specs.Changes.{answered, faulted, faults_of}
 use Rattle.drv_jobs.specs.Sound.{IsSound}
 use Rattle.drv_jobs.specs.Standings.{Standings, holder_of, is_waiting}
-use Rattle.drv_jobs.specs.declared.requests.TheConstants.{MOST_FAULTS}
 use Rattle.drv_recover.specs.declared.recovery.RecoveryState.TheVariants as driver
 use Rattle.host_laws.proofs.Begun.{fault_happens, recover_happens, refusal_happens}
 use Rattle.host_laws.proofs.FailTells.{ended_state, retried_state}
-use Rattle.host_laws.proofs.Failed.{failed_at, faulted_other, faulted_same, freed_none, not_waiting, noted_is, same_tag}
-use Rattle.host_laws.proofs.Judged.{Judgement, counts, exceeds, flash, judgement, leaves, range}
+use Rattle.host_laws.proofs.Failed.{failed_at, faulted_other, not_waiting, noted_is}
+use Rattle.host_laws.proofs.Judged.{Judgement, counts, exceeds, flash, leaves, range}
 use Rattle.host_laws.proofs.Paths.{path_at, same_array}
 use Rattle.host_laws.proofs.Quiet.{agrees_quiet, not_busy}
 use Rattle.host_laws.proofs.Recovered.{none_stopped}
 use Rattle.host_laws.proofs.Recoveries.{event_at, owed_at, placed, recovery_at}
 use Rattle.host_laws.proofs.TiesKept.{IsCalm, fails_to, none_completed}
-use Rattle.world_state.specs.Host.{HostEvent, cause_of, fault_lines, host_lines, moment_of}
-use Rattle.world_state.specs.Laws.{HostLaws, StateLaws}
-use Rattle.world_state.specs.Path.{PathState, holder, is_busy, plan_of, under_way}
+use Rattle.world_state.specs.Host.{HostEvent, cause_of, host_lines, moment_of}
+use Rattle.world_state.specs.Laws.{StateLaws}
+use Rattle.world_state.specs.Path.{PathState, holder, plan_of}
 use Rattle.world_state.specs.Reading.{Context, recovery_of, state_of, stop_by, stop_of}
 use Rattle.world_state.specs.Stands.{Agrees, AreNamed, named_at, names, sent_of}
 use Rattle.world_state.specs.Ties.{AreTied}

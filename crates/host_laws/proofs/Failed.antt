@@ -1,16 +1,14 @@
 -- The ties after a stop is judged, and a recovery begins.
-use Rattle.std.proofs.Common.{◌≡◌, ◌≢◌, ◌∙◌, ◌⊎◌, ◌<◌, ◌≤◌, ◌+◌, ◌-◌, ◌==◌, ℕ, zero, suc, Bool, true, false, cond, not, List, [], ◌∷◌, Option, None, Some, is_some, get_or, length, min, set, slice_index_or, slice_set, inl, inr, refl, ap, sym, subst, arith, get_or-set_other, get_or-set_same, eqb-true, nat_eq}
+use Rattle.std.proofs.Common.{◌≡◌, ◌∙◌, ◌<◌, ◌-◌, ◌==◌, ℕ, Bool, true, false, List, Option, None, Some, is_some, get_or, slice_set, refl, ap, sym, subst, arith, get_or-set_other, get_or-set_same, eqb-true, nat_eq}
 use Rattle.std.proofs.lemmas.Bool.{eqb-false, false≢true}
 use Rattle.std.specs.Option.{IsSomeAnd}
 use Rattle.storage_model.specs.declared.plan.Plan.{Plan}
-use Rattle.cq_regs.specs.State.{Registers}
 use Rattle.drv_core.proofs.Plans.{judged-plan}
-use Rattle.drv_core.specs.Judge.{Judged, ended, judged, retried}
-use Rattle.drv_core.specs.State.{is_recovering, layout_of}
-use Rattle.drv_core.specs.declared.act.Stop.{Stop}
+use Rattle.drv_core.specs.Judge.{Judged, judged}
+use Rattle.drv_core.specs.State.{layout_of}
 use Rattle.drv_jobs.proofs.HolderLaws.{AreFewer, fewer-set, holder-freed}
 use Rattle.drv_jobs.specs.Changes.{answered, faulted, faults_of, one_more}
-use Rattle.drv_jobs.specs.Sound.{AreHeld, IsHeld, IsSound}
+use Rattle.drv_jobs.specs.Sound.{IsSound}
 use Rattle.drv_jobs.specs.Standings.{Standings, holder_of, is_waiting}
 use Rattle.drv_jobs.specs.declared.requests.TheConstants.{MOST_FAULTS}
 use Rattle.drv_recover.specs.declared.recovery.RecoveryState.TheVariants as driver
@@ -20,8 +18,8 @@ use Rattle.host_laws.proofs.Judged.{Judgement, counts, exceeds, flash, judgement
 use Rattle.host_laws.proofs.Paths.{path_at, set_up_halted}
 use Rattle.host_laws.proofs.Recovered.{begun_none, none_stopped}
 use Rattle.bus_link.specs.declared.link.Cause.{Cause}
-use Rattle.world_state.specs.Path.{PathState, holder, plan_of}
-use Rattle.world_state.specs.Ties.{AreBorne, AreTied, HasSetUp, IsAlone, IsCardOf}
+use Rattle.world_state.specs.Path.{PathState, plan_of}
+use Rattle.world_state.specs.Ties.{AreBorne, AreTied, HasSetUp, IsCardOf}
 
 -- how the requests stand: each that has no answer was named by fewer faults than end it
 abbrev pub BearWaiting : Standings → Type 0

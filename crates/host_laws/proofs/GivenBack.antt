@@ -1,7 +1,6 @@
 -- The ties after the last step of a recovery: all that it held waits again.
-use Rattle.std.proofs.Common.{◌≡◌, ◌≢◌, ◌∙◌, ◌⊎◌, ◌<◌, ◌≤◌, ◌+◌, ◌-◌, ◌==◌, ℕ, zero, suc, Bool, true, false, cond, not, List, [], ◌∷◌, Option, None, Some, IfSome, MatchOption, IsSomeAnd, is_some, fold, get_or, length, set, slice_index_or, slice_set, option_map, inl, inr, refl, ap, sym, subst, arith, get_or-set_other, eqb-true, nat_eq}
+use Rattle.std.proofs.Common.{◌≡◌, ◌∙◌, ◌⊎◌, ◌<◌, ◌-◌, ◌==◌, ℕ, suc, Bool, true, false, List, [], ◌∷◌, Option, None, Some, MatchOption, is_some, fold, get_or, set, slice_index_or, inl, inr, refl, ap, sym, subst, get_or-set_other, eqb-true}
 use Rattle.std.proofs.lemmas.Bool.{eqb-false, false≢true}
-use Rattle.cq_regs.specs.declared.slots.Progress.{Progress}
 use Rattle.cq_regs.specs.declared.slots.Progress.TheVariants.{Idle}
 use Rattle.cq_regs.specs.declared.slots.Ringed.{Ringed}
 use Rattle.cq_regs.specs.Slots.{progress_of}
@@ -9,7 +8,7 @@ use Rattle.cq_schedule.specs.Holding.{is_begun}
 use Rattle.drv_jobs.proofs.HolderLaws.{holder-none}
 use Rattle.drv_jobs.specs.Changes.{faults_of, given_back, waits_again}
 use Rattle.drv_jobs.specs.Sound.{IsSound}
-use Rattle.drv_jobs.specs.Standings.{Standings, holder_of, is_waiting, no_holders}
+use Rattle.drv_jobs.specs.Standings.{holder_of, is_waiting}
 use Rattle.drv_jobs.specs.declared.requests.TheConstants.{MOST_FAULTS}
 use Rattle.drv_recover.specs.Recovery.{IsAt, IsOver}
 use Rattle.drv_recover.specs.declared.recovery.RecoveryState.{RecoveryState}
@@ -18,8 +17,8 @@ use Rattle.task_queue.specs.Queue.{slot}
 use Rattle.host_laws.proofs.Held.{none_done}
 use Rattle.host_laws.proofs.Paths.{path_at}
 use Rattle.host_laws.proofs.Recovered.{begun_none, none_rung}
-use Rattle.world_state.specs.Path.{PathState, holder, under_way}
-use Rattle.world_state.specs.Ties.{AreBorne, AreTied, HasQueue, IsIssued, IsVacant, TagRuns, phase_words, queued_of}
+use Rattle.world_state.specs.Path.{PathState, holder}
+use Rattle.world_state.specs.Ties.{AreBorne, AreTied, HasQueue, IsIssued, IsVacant, TagRuns, phase_words}
 
 -- what waits again waited, or was held
 pub record WasHeld (holders : List (Option ℕ)) (place : ℕ) : Type 0 where

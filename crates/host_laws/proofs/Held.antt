@@ -1,14 +1,12 @@
 -- The ties while a recovery is under way: requests, tables and card stay, and no task is rung or notified.
-use Rattle.std.proofs.Common.{◌≡◌, ◌≢◌, ◌∙◌, ◌⊎◌, ◌<◌, ◌≤◌, ◌+◌, ℕ, Bool, true, false, cond, not, List, [], Option, None, Some, IfSome, MatchOption, is_some, inl, inr, refl, ap, sym, subst, arith, nat_eq}
+use Rattle.std.proofs.Common.{◌≡◌, ◌∙◌, ℕ, Bool, true, false, cond, not, None, ap, sym, nat_eq}
 use Rattle.std.proofs.lemmas.Bool.{false≢true}
 use Rattle.std.proofs.lemmas.Nat.Bits.{bit_at-zero}
-use Rattle.array_edge.specs.Array.{ArrayState}
 use Rattle.task_queue.specs.Queue.{slot}
 use Rattle.card_store.specs.Store.{IsStore}
 use Rattle.cq_engine.specs.Holds.{AreCounted, Holds, LieIn}
-use Rattle.cq_engine.specs.Standings.{OneOpen, is_open}
-use Rattle.cq_regs.specs.Slots.{has_bit, progress_of}
-use Rattle.cq_regs.specs.State.{Registers}
+use Rattle.cq_engine.specs.Standings.{OneOpen}
+use Rattle.cq_regs.specs.Slots.{has_bit}
 use Rattle.drv_core.specs.State.{is_recovering}
 use Rattle.drv_jobs.specs.Sound.{IsSound}
 use Rattle.drv_recover.specs.Recovery.{IsAt}
@@ -16,7 +14,7 @@ use Rattle.drv_recover.specs.declared.recovery.RecoveryState.{RecoveryState}
 use Rattle.drv_recover.specs.declared.recovery.RecoveryState.TheVariants as driver
 use Rattle.drv_ring.specs.Layout.{HasLayout}
 use Rattle.world_state.specs.Path.{PathState, layout, plan_of, runs, under_way}
-use Rattle.world_state.specs.Ties.{AreBorne, AreTied, HasHit, HasPhase, HasSetUp, IsAhead, IsAlone, IsCardOf, IsScript, NamesRung, TagIsTied, TagRuns, is_discarded, phase_words}
+use Rattle.world_state.specs.Ties.{AreBorne, AreTied, HasSetUp, IsAlone, IsCardOf, IsScript, NamesRung, is_discarded, phase_words}
 
 -- what has to be so of a path whose recovery is under way
 pub record IsHeldBack (q : PathState) : Type 0 where

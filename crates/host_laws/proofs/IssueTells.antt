@@ -1,43 +1,24 @@
 -- The line of an issue, and of an event that has nothing to do.
-use Rattle.std.proofs.Common.{◌≡◌, ◌≢◌, ◌∙◌, ◌⊎◌, ◌++◌, ◌+◌, ◌-◌, ◌<◌, ◌≤◌, ◌==◌, ◌&&◌, ℕ, Bool, true, false, cond, not, List, [], ◌∷◌, Option, None, Some, IfSome, IsSomeAnd, MatchOption, Result, Ok, Err, is_some, is_ok, map, min, option_map, set, slice_set, get_or, length, nat_eq, inl, inr, refl, ap, ap₂, sym, subst, arith, eqb-true, eq-eqb, if◌then◌else◌}
+use Rattle.std.proofs.Common.{◌≡◌, ◌≢◌, ◌∙◌, ◌++◌, ◌+◌, ◌<◌, ◌==◌, ℕ, Bool, true, false, cond, [], ◌∷◌, Option, None, Some, MatchOption, is_some, map, option_map, slice_set, refl, ap, sym, arith, eqb-true, eq-eqb, if◌then◌else◌}
 use Rattle.std.proofs.lemmas.Bool.{eqb-false, false≢true}
 use Rattle.std.specs.List.{range_with_len}
 use Rattle.std.specs.Option.{option_map_or}
-use Rattle.std.specs.Result.{result_ok}
-use Rattle.storage_model.specs.declared.block.Block.{Block}
-use Rattle.storage_model.specs.declared.faults.Letter.TheVariants.{Host as HostActs}
 use Rattle.storage_model.specs.declared.plan.Job.{Job}
 use Rattle.storage_model.specs.declared.plan.Job.TheVariants.{Read, Write, Flush, Barrier, Status}
-use Rattle.storage_model.specs.declared.trace.Item.TheVariants.{Issue}
 use Rattle.storage_model.specs.Plan.{blocks_of}
-use Rattle.storage_machine.specs.Host.{has_work, is_irq_due, is_silent, next_issue}
-use Rattle.storage_machine.specs.Jobs.{is_read, phase_blocks}
+use Rattle.storage_machine.specs.Jobs.{is_read}
 use Rattle.storage_machine.specs.declared.state.Standing.TheVariants as standing
-use Rattle.storage_machine.specs.declared.state.State.{State}
 use Rattle.storage_machine.specs.declared.state.Stop.{Stop}
 use Rattle.storage_machine.specs.declared.state.Stop.TheVariants as stop
-use Rattle.storage_machine.specs.declared.state.Task.{Task}
-use Rattle.storage_order.specs.Events.{Happens}
 use Rattle.trace_effects.specs.Effects.{after_issue}
-use Rattle.trace_rules.specs.Lines.{is_pair}
-use Rattle.array_edge.specs.Array.{ArrayState}
-use Rattle.cq_regs.specs.Slots.{newly_rung, progress_of}
+use Rattle.cq_regs.specs.Slots.{progress_of}
 use Rattle.cq_regs.specs.declared.slots.Progress.{Progress}
-use Rattle.cq_regs.specs.declared.slots.Progress.TheVariants.{Idle, Rung, Active}
-use Rattle.cq_schedule.specs.Held.{held_at, slots}
+use Rattle.cq_schedule.specs.Held.{slots}
 use Rattle.cq_schedule.specs.Order.{order_of}
 use Rattle.cut_order.specs.Order.{OrderState}
 use Rattle.drv_core.specs.Event.{IsWritten}
 use Rattle.drv_core.specs.State.{is_recovering}
-use Rattle.drv_core.specs.Work.{has_work as has_host_work, is_noticed, work_of}
-use Rattle.drv_core.specs.declared.act.Act.{Act}
-use Rattle.drv_core.specs.declared.act.Act.TheVariants.{Nothing, Issued}
-use Rattle.drv_core.specs.declared.work.Work.TheVariants.{Issue as IssueWork}
-use Rattle.drv_jobs.specs.Changes.{faults_of}
-use Rattle.drv_jobs.specs.Next.{due_of}
-use Rattle.drv_jobs.specs.Standings.{is_waiting}
 use Rattle.drv_jobs.specs.declared.next.Due.{Due}
-use Rattle.drv_jobs.specs.declared.next.Hold.{Hold}
 use Rattle.drv_recover.specs.declared.recovery.RecoveryState.TheVariants as driver
 use Rattle.drv_ring.specs.Asks.{HasBlocks}
 use Rattle.drv_ring.specs.Layout.{IsTagOf}
@@ -45,21 +26,15 @@ use Rattle.drv_ring.specs.Changes.{KeepsTag}
 use Rattle.drv_ring.specs.Pieces.{tag_pieces}
 use Rattle.host_mem.specs.Memory.{Memory}
 use Rattle.piece_data.specs.Data.{block_of}
-use Rattle.host_laws.proofs.Begun.{begun_idle, issue_happens, rests_at}
 use Rattle.host_laws.proofs.Dues.{IsIssuable}
-use Rattle.host_laws.proofs.Issued.{IsFree, IsRungMore, holder_other, holder_that, issued_at, other_slot, that_slot, waits_if}
+use Rattle.host_laws.proofs.Issued.{IsFree, holder_other, holder_that, issued_at, other_slot, that_slot}
 use Rattle.host_laws.proofs.IssuedRuns.{More, ring_at, way_issued}
-use Rattle.host_laws.proofs.Recoveries.{event_at, owed_at, placed, recovery_at}
 use Rattle.host_laws.proofs.Recovered.{at_place}
-use Rattle.host_laws.proofs.Same.{agrees_same, range_same, range_set, way_active}
-use Rattle.host_laws.proofs.TiesKept.{IsCalm}
-use Rattle.world_state.specs.Host.{host_lines}
-use Rattle.world_state.specs.Laws.{HostLaws, StateLaws}
+use Rattle.host_laws.proofs.Same.{range_same, range_set, way_active}
 use Rattle.world_state.specs.Path.{PathState, holder, job, layout, moved, moved_by, plan_of, runs, under_way}
-use Rattle.world_state.specs.Reading.{Context, blocks_held, data_by, data_of, is_done, recovery_of, spent_of, standing_at, standing_of, state_of, stop_by, stop_of, task_at, tasks_of}
-use Rattle.world_state.specs.Stands.{Agrees, AreNamed, HasReadSoFar, marks_moved, marks_moved_by, named_at, names, puts_by}
+use Rattle.world_state.specs.Reading.{Context, blocks_held, data_by, data_of, is_done, spent_of, standing_at, standing_of, state_of, stop_by, task_at, tasks_of}
+use Rattle.world_state.specs.Stands.{marks_moved, marks_moved_by, puts_by}
 use Rattle.world_state.specs.Ties.{AreTied, IsIssued, IsVacant}
-use Rattle.world_state.specs.Told.{Tells, Told}
 
 -- the tasks
 standing_calm : (p : PathState) (due : Due) (memory : Memory) (tag : ℕ) → is_done p tag ≡ false → standing_at (issued_at p due memory) tag ≡ standing_of (progress_of (ring_at p due) tag)

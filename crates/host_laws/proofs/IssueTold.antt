@@ -1,5 +1,5 @@
 -- What an issue tells, and an event without work.
-use Rattle.std.proofs.Common.{◌≡◌, ◌≢◌, ◌∙◌, ◌⊎◌, ◌++◌, ◌+◌, ◌-◌, ◌<◌, ◌≤◌, ◌==◌, ◌&&◌, ℕ, Bool, true, false, cond, not, List, [], ◌∷◌, Option, None, Some, IfSome, IsSomeAnd, MatchOption, Result, Ok, Err, All, is_some, is_ok, find, min, option_map, get_or, nat_eq, inl, inr, refl, ap, sym, subst, arith, eqb-true, eq-eqb, if◌then◌else◌}
+use Rattle.std.proofs.Common.{◌≡◌, ◌≢◌, ◌∙◌, ◌+◌, ◌-◌, ◌<◌, ◌≤◌, ◌==◌, ◌&&◌, ℕ, Bool, true, false, cond, not, List, [], ◌∷◌, Option, None, Some, IfSome, IsSomeAnd, MatchOption, Ok, Err, All, is_ok, find, min, option_map, refl, ap, sym, subst, arith, eqb-true, eq-eqb, if◌then◌else◌}
 use Rattle.std.proofs.lemmas.Bool.{eqb-false, false≢true}
 use Rattle.std.proofs.lemmas.List.Elements.{All-head, All-tail}
 use Rattle.std.specs.Option.{option_map_or}
@@ -9,8 +9,7 @@ use Rattle.storage_model.specs.Plan.{blocks_of}
 use Rattle.storage_model.specs.declared.faults.Letter.TheVariants.{Host as HostActs}
 use Rattle.storage_model.specs.declared.plan.Job.{Job}
 use Rattle.storage_model.specs.declared.plan.Job.TheVariants.{Read, Write, Flush, Barrier, Status}
-use Rattle.storage_model.specs.declared.trace.Item.TheVariants.{Issue}
-use Rattle.storage_machine.specs.Host.{has_work, is_irq_due, is_silent, next_issue}
+use Rattle.storage_machine.specs.Host.{has_work, is_silent, next_issue}
 use Rattle.storage_machine.specs.Jobs.{is_read, phase_blocks, sector_of}
 use Rattle.storage_machine.specs.declared.state.State.{State}
 use Rattle.storage_machine.specs.declared.state.Stop.{Stop}
@@ -21,7 +20,6 @@ use Rattle.trace_rules.specs.Lines.{is_pair}
 use Rattle.array_edge.specs.Array.{ArrayState}
 use Rattle.cq_engine.specs.Holds.{IsCounted}
 use Rattle.cq_regs.specs.Slots.{is_rung, progress_of}
-use Rattle.cq_regs.specs.declared.slots.Progress.{Progress}
 use Rattle.cq_regs.specs.declared.slots.Progress.TheVariants.{Idle, Active}
 use Rattle.cq_regs.specs.declared.slots.Ringed.{Ringed}
 use Rattle.cq_schedule.specs.Held.{held_at}
@@ -31,11 +29,10 @@ use Rattle.cq_schedule.specs.declared.held.HeldTask.{HeldTask}
 use Rattle.cq_task.specs.declared.slot.DataTask.{DataTask}
 use Rattle.cq_task.specs.declared.slot.SlotTask.TheVariants.{Data}
 use Rattle.cut_order.specs.Order.{OrderState}
-use Rattle.drv_core.specs.Event.{IsWritten, Issues, told_of}
+use Rattle.drv_core.specs.Event.{IsWritten, Issues}
 use Rattle.drv_core.specs.State.{asks_notice, is_recovering}
-use Rattle.drv_core.specs.Work.{has_work as has_host_work, is_possible, work_of}
+use Rattle.drv_core.specs.Work.{is_possible, work_of}
 use Rattle.drv_core.specs.declared.act.Act.{Act}
-use Rattle.drv_core.specs.declared.act.Act.TheVariants.{Nothing, Issued}
 use Rattle.drv_core.specs.declared.work.Work.TheVariants.{Issue as IssueWork}
 use Rattle.drv_jobs.specs.Changes.{faults_of}
 use Rattle.drv_jobs.specs.Next.{due_of}
@@ -60,12 +57,12 @@ use Rattle.host_laws.proofs.Recoveries.{event_at, owed_at, placed, recovery_at}
 use Rattle.host_laws.proofs.Same.{agrees_same, way_active}
 use Rattle.host_laws.proofs.TiesKept.{IsCalm, issues_to, waits_to}
 use Rattle.world_state.specs.Host.{HostEvent, host_lines, moment_of}
-use Rattle.world_state.specs.Laws.{HostLaws, StateLaws}
+use Rattle.world_state.specs.Laws.{StateLaws}
 use Rattle.world_state.specs.Path.{PathState, holder, job, layout, moved, moved_by, plan_of, runs, under_way}
 use Rattle.world_state.specs.Reading.{Context, recovery_of, state_of, stop_by, stop_of}
 use Rattle.world_state.specs.Stands.{Agrees, AreNamed, HasReadSoFar, named_at, names}
 use Rattle.world_state.specs.Ties.{AreTied, HoldsJob, IsIssued, IsVacant}
-use Rattle.world_state.specs.Told.{Tells, Told}
+use Rattle.world_state.specs.Told.{Tells}
 
 -- a slot that is rung is one of the 32
 below_if : (b : Bool) (r : Ringed) (rest : Option Ringed) (slot : ℕ) → (r.slot == slot) ≡ b → r.slot < 32 → (is_rung (option_map_or (λ (x : Ringed). x.progress) rest Idle) ≡ true → slot < 32)

@@ -1,47 +1,37 @@
 -- The ties after a request is issued.
-use Rattle.std.proofs.Common.{◌≡◌, ◌≢◌, ◌∙◌, ◌⊎◌, ◌<◌, ◌≤◌, ◌+◌, ◌-◌, ◌*◌, ◌^◌, ◌==◌, ◌&&◌, ◌++◌, ℕ, zero, suc, Bool, true, false, cond, not, List, [], ◌∷◌, Option, None, Some, IfSome, MatchOption, IsSomeAnd, is_some, get_or, length, find, slice_index_or, slice_set, option_map, inl, inr, refl, ap, sym, subst, arith, get_or-set_other, get_or-set_same, eqb-true, nat_eq}
+use Rattle.std.proofs.Common.{◌≡◌, ◌∙◌, ◌<◌, ◌-◌, ◌^◌, ◌==◌, ◌++◌, ℕ, zero, suc, Bool, true, false, cond, not, List, [], ◌∷◌, Option, None, Some, MatchOption, get_or, find, slice_set, refl, ap, sym, subst, arith, get_or-set_other, get_or-set_same, eqb-true}
 use Rattle.std.proofs.lemmas.Bool.{eqb-false, false≢true}
-use Rattle.std.specs.Option.{option_map_or}
-use Rattle.storage_model.specs.Plan.{blocks_of}
 use Rattle.storage_model.specs.declared.block.Block.{Block}
 use Rattle.storage_model.specs.declared.plan.Job.{Job}
 use Rattle.storage_model.specs.declared.plan.Job.TheVariants.{Read, Write, Flush, Barrier, Status}
-use Rattle.storage_model.specs.declared.plan.Plan.{Plan}
-use Rattle.storage_machine.specs.Jobs.{is_high}
 use Rattle.host_mem.specs.Memory.{Memory}
-use Rattle.piece_data.specs.Data.{block_of}
-use Rattle.cq_engine.proofs.Lying.{lie_same}
-use Rattle.cq_engine.specs.Standings.{OneOpen, is_open}
 use Rattle.cq_regs.specs.Effects.{belled}
 use Rattle.cq_regs.specs.Slots.{has_bit, is_rung, newly_rung, progress_of, rung}
 use Rattle.cq_regs.specs.State.{Registers}
 use Rattle.cq_regs.specs.declared.slots.Progress.{Progress}
-use Rattle.cq_regs.specs.declared.slots.Progress.TheVariants.{Idle, Rung, Named, Sent, Ready, Active}
+use Rattle.cq_regs.specs.declared.slots.Progress.TheVariants.{Idle, Rung}
 use Rattle.cq_regs.specs.declared.slots.Ringed.{Ringed}
-use Rattle.cq_schedule.specs.Held.{held_at, same}
-use Rattle.cq_schedule.specs.Holding.{is_begun}
+use Rattle.cq_schedule.specs.Held.{same}
 use Rattle.cq_schedule.specs.Order.{first_at, order_of}
 use Rattle.drv_core.specs.Event.{IsWritten}
 use Rattle.drv_core.specs.SetUp.{configuration_word}
-use Rattle.drv_core.specs.State.{asks_notice, is_recovering, layout_of}
+use Rattle.drv_core.specs.State.{asks_notice, is_recovering}
 use Rattle.drv_jobs.specs.Changes.{faults_of, issued}
 use Rattle.drv_jobs.specs.Sound.{IsSound}
-use Rattle.drv_jobs.specs.Standings.{Standings, holder_of, is_waiting}
+use Rattle.drv_jobs.specs.Standings.{Standings, holder_of}
 use Rattle.drv_jobs.specs.declared.next.Due.{Due}
 use Rattle.drv_jobs.specs.declared.requests.TheConstants.{MOST_FAULTS}
 use Rattle.drv_recover.specs.declared.recovery.RecoveryState.TheVariants as driver
-use Rattle.drv_ring.specs.Asks.{Asks, HasBlocks, HoldsData}
+use Rattle.drv_ring.specs.Asks.{HasBlocks, HoldsData}
 use Rattle.drv_ring.specs.Changes.{KeepsTag}
-use Rattle.drv_ring.specs.Layout.{HasLayout, IsTagOf}
-use Rattle.drv_ring.specs.Pieces.{tag_pieces}
-use Rattle.task_queue.specs.Queue.{slot}
+use Rattle.drv_ring.specs.Layout.{IsTagOf}
 use Rattle.drv_ring.specs.declared.places.Layout.{Layout}
-use Rattle.host_laws.proofs.Dues.{IsIssuable, TagIs, alone, free}
+use Rattle.host_laws.proofs.Dues.{IsIssuable}
 use Rattle.host_laws.proofs.Paths.{path_at}
-use Rattle.host_laws.proofs.Rings.{find_one, order_one, progress_one, ring_one, rung_one}
-use Rattle.world_state.specs.Path.{PathState, holder, job, layout, moved, plan_of, runs, under_way}
-use Rattle.world_state.specs.Reading.{is_done, notice_of}
-use Rattle.world_state.specs.Ties.{AreBorne, AreTied, HasHit, HasPhase, HasQueue, HasSetUp, HoldsJob, IsAhead, IsInImage, IsIssued, IsVacant, TagIsTied, TagRuns, ahead, first_of, has_high, is_executable, is_queued, phase_words, queued_of}
+use Rattle.host_laws.proofs.Rings.{find_one, order_one, progress_one, rung_one}
+use Rattle.world_state.specs.Path.{PathState, holder, job, layout, plan_of}
+use Rattle.world_state.specs.Reading.{is_done}
+use Rattle.world_state.specs.Ties.{AreBorne, AreTied, IsIssued, IsVacant, TagIsTied}
 
 -- the path after it
 abbrev pub issued_at : PathState → Due → Memory → PathState

@@ -1,5 +1,5 @@
 -- The ties of the running engine after a request is issued, and so all of them.
-use Rattle.std.proofs.Common.{◌≡◌, ◌≢◌, ◌∙◌, ap₂, ◌⊎◌, ◌<◌, ◌≤◌, ◌+◌, ◌-◌, ◌^◌, ◌==◌, ◌&&◌, ◌++◌, ℕ, zero, suc, Bool, true, false, cond, not, List, [], ◌∷◌, Option, None, Some, IfSome, MatchOption, IsSomeAnd, is_some, find, option_map, inl, inr, refl, ap, sym, subst, arith, eqb-true, if◌then◌else◌}
+use Rattle.std.proofs.Common.{◌≡◌, ◌≢◌, ◌∙◌, ap₂, ◌⊎◌, ◌<◌, ◌==◌, ◌&&◌, ◌++◌, ℕ, Bool, true, false, cond, not, List, [], ◌∷◌, Option, None, Some, IfSome, IsSomeAnd, find, option_map, inl, inr, refl, ap, sym, subst, arith, eqb-true, if◌then◌else◌}
 use Rattle.std.proofs.lemmas.Bool.{false≢true}
 use Rattle.std.specs.Option.{option_map_or}
 use Rattle.storage_machine.specs.Commands.{is_gone}
@@ -10,29 +10,27 @@ use Rattle.cq_engine.specs.Holds.{Holds}
 use Rattle.cq_engine.specs.Standings.{OneOpen, is_open}
 use Rattle.cq_regs.specs.Slots.{is_rung, newly_rung, progress_of}
 use Rattle.cq_regs.specs.declared.slots.Progress.{Progress}
-use Rattle.cq_regs.specs.declared.slots.Progress.TheVariants.{Idle, Rung, Named, Sent, Ready, Active}
+use Rattle.cq_regs.specs.declared.slots.Progress.TheVariants.{Idle, Rung, Named, Ready, Active}
 use Rattle.cq_regs.specs.declared.slots.Ringed.{Ringed}
 use Rattle.cq_regs.specs.State.{Registers}
 use Rattle.cq_regs.specs.Slots.{has_bit}
-use Rattle.cq_schedule.specs.Held.{held_at, same}
+use Rattle.cq_schedule.specs.Held.{held_at}
 use Rattle.cq_task.specs.declared.slot.SlotTask.TheVariants.{Data}
 use Rattle.drv_ring.specs.Task.{task_of}
 use Rattle.task_queue.specs.declared.queue.Queued.{Queued}
 use Rattle.cq_schedule.specs.Holding.{is_begun}
-use Rattle.cq_schedule.specs.Order.{first_at, order_of}
+use Rattle.cq_schedule.specs.Order.{order_of}
 use Rattle.drv_core.specs.Event.{IsWritten}
 use Rattle.drv_core.specs.State.{asks_notice, is_recovering}
 use Rattle.drv_jobs.specs.Changes.{issued}
 use Rattle.drv_jobs.specs.Sound.{IsSound}
-use Rattle.drv_jobs.specs.Standings.{holder_of}
 use Rattle.drv_jobs.specs.declared.next.Due.{Due}
 use Rattle.drv_recover.specs.declared.recovery.RecoveryState.TheVariants as driver
 use Rattle.drv_ring.specs.Layout.{HasLayout}
-use Rattle.task_queue.specs.Queue.{slot}
 use Rattle.host_laws.proofs.Dues.{IsIssuable, TagIs, alone, free}
-use Rattle.host_laws.proofs.Issued.{IsFree, IsRungMore, borne_issued, first_same, free_tag_is, holder_other, holder_that, issued_at, other_slot, rung_more, seen_alike, tag_by, that_slot}
+use Rattle.host_laws.proofs.Issued.{IsRungMore, borne_issued, first_same, free_tag_is, holder_other, holder_that, issued_at, other_slot, rung_more, seen_alike, tag_by, that_slot}
 use Rattle.host_laws.proofs.Rings.{find_one, ring_one}
-use Rattle.world_state.specs.Path.{PathState, holder, job, layout, moved, moved_by, plan_of, runs, under_way}
+use Rattle.world_state.specs.Path.{PathState, holder, job, layout, moved_by, plan_of, runs, under_way}
 use Rattle.world_state.specs.Reading.{is_free, notice_of}
 use Rattle.world_state.specs.Ties.{AreTied, HasHit, HasPhase, HasQueue, HoldsJob, IsAhead, IsAlone, IsBeforeFault, IsInImage, TagRuns, ahead, first_of, has_high, is_executable, is_queued, named_by, phase_words, words_of}
 

@@ -1,5 +1,5 @@
 -- What a stop of the engine does to the request that it names, by cases, with what it is to the machine.
-use Rattle.std.proofs.Common.{◌≡◌, ◌∙◌, ◌⊎◌, ◌==◌, ◌||◌, ℕ, Bool, true, false, cond, Option, None, Some, inl, inr, refl, ap, sym, subst}
+use Rattle.std.proofs.Common.{◌≡◌, ◌∙◌, ◌==◌, ℕ, Bool, true, false, cond, Option, None, Some, refl, ap}
 use Rattle.std.specs.Int.{bit_at}
 use Rattle.bus_link.specs.Link.{tells_flash}
 use Rattle.bus_link.specs.declared.link.Cause.{Cause}
@@ -8,9 +8,8 @@ use Rattle.drv_core.specs.Judge.{Judged, after_error, after_fault, after_word, c
 use Rattle.drv_core.specs.declared.act.Stop.{Stop}
 use Rattle.drv_core.specs.declared.act.Stop.TheVariants.{Bus, Flash, Range}
 use Rattle.drv_jobs.specs.Changes.{faulted, faults_of}
-use Rattle.drv_jobs.specs.Standings.{Standings, holder_of}
+use Rattle.drv_jobs.specs.Standings.{Standings}
 use Rattle.drv_jobs.specs.declared.requests.TheConstants.{MOST_FAULTS}
-use Rattle.storage_machine.specs.declared.state.Stop.{Stop as MachineStop}
 use Rattle.storage_machine.specs.declared.state.Stop.TheVariants as stop
 use Rattle.world_state.specs.Path.{PathState, holder}
 use Rattle.world_state.specs.Reading.{stop_by, stop_by_word}

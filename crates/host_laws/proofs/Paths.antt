@@ -1,19 +1,17 @@
 -- A path by its parts, and what a write of the control and of the interrupt status leaves of registers that the driver set up.
-use Rattle.std.proofs.Common.{◌≡◌, ◌∙◌, ◌⊎◌, ◌<◌, ◌≤◌, ◌^◌, ◌-◌, ℕ, Bool, true, false, cond, not, List, [], inl, inr, refl, ap, sym, subst, bit_and, bit_or, arith, lit<}
+use Rattle.std.proofs.Common.{◌≡◌, ◌∙◌, ◌⊎◌, ℕ, Bool, true, false, cond, not, [], inl, inr, refl, ap, sym, bit_and, bit_or, arith, lit<}
 use Rattle.std.proofs.lemmas.Bool.{false≢true}
 use Rattle.storage_model.specs.declared.plan.Plan.{Plan}
 use Rattle.array_edge.specs.Array.{ArrayState}
 use Rattle.host_mem.specs.Memory.{Memory}
 use Rattle.bus_link.specs.Script.{Script}
 use Rattle.card_core.specs.Card.{CardState}
-use Rattle.card_link.specs.Behind.{Behind, behind}
+use Rattle.card_link.specs.Behind.{Behind}
 use Rattle.cq_engine.specs.Outcome.{Holding}
-use Rattle.cq_regs.specs.Effects.{at_reset, cleared, halt_complete, raised, tasks_cleared, without_bits}
+use Rattle.cq_regs.specs.Effects.{cleared, halt_complete, raised, without_bits}
 use Rattle.cq_regs.specs.Slots.{IsRing, has_bit}
 use Rattle.cq_regs.specs.State.{Registers}
 use Rattle.drv_core.specs.Event.{acknowledged}
-use Rattle.drv_core.specs.SetUp.{set_up}
-use Rattle.drv_core.specs.State.{DriverState}
 use Rattle.drv_jobs.specs.Standings.{Standings}
 use Rattle.drv_recover.specs.Recovery.{all_cleared, cleaned, halted, resumed}
 use Rattle.drv_recover.specs.declared.recovery.RecoveryState.{RecoveryState}

@@ -1,10 +1,10 @@
 -- Contents and numbers where no phase is under way, before and after an event that leaves the store.
-use Rattle.std.proofs.Common.{◌≡◌, ◌∙◌, ◌++◌, ◌<◌, ◌+◌, ℕ, Bool, true, false, cond, List, [], Option, None, Some, IfSome, is_some, length, refl, ap, sym, subst, append-nil, if◌then◌else◌}
+use Rattle.std.proofs.Common.{◌≡◌, ◌∙◌, ◌++◌, ◌<◌, ◌+◌, ℕ, false, List, [], Option, None, IfSome, is_some, length, ap, sym, subst, if◌then◌else◌}
 use Rattle.storage_model.specs.declared.block.Block.{Block}
 use Rattle.storage_model.specs.declared.marks.Mark.{Mark}
 use Rattle.storage_model.specs.declared.plan.Plan.{Plan}
 use Rattle.array_edge.specs.Array.{ArrayState}
-use Rattle.card_store.specs.Store.{Contents, Store, Stands as StoreStands}
+use Rattle.card_store.specs.Store.{Store, Stands as StoreStands}
 use Rattle.intent_store.specs.Intent.{shown_by}
 use Rattle.trace_effects.specs.Cuts.{places_of}
 use Rattle.world_state.specs.Path.{PathState, is_busy, moved, plan_of, under_way}

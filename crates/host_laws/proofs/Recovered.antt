@@ -1,41 +1,37 @@
 -- The ties after each step of a recovery but the last.
-use Rattle.std.proofs.Common.{◌≡◌, ◌≢◌, ◌∙◌, ◌⊎◌, ◌<◌, ◌≤◌, ◌+◌, ◌-◌, ◌^◌, ℕ, zero, suc, Bool, true, false, cond, not, List, [], ◌∷◌, Option, None, Some, IfSome, Result, Ok, Err, is_some, length, replicate, slice_index_or, option_map, min, inl, inr, refl, ap, sym, subst, arith, MatchBool}
+use Rattle.std.proofs.Common.{◌≡◌, ◌≢◌, ◌∙◌, ◌⊎◌, ℕ, zero, suc, Bool, true, false, cond, List, [], Option, None, Some, Result, Ok, length, replicate, slice_index_or, option_map, inl, inr, refl, ap, sym, subst, arith, MatchBool}
 use Rattle.std.proofs.lemmas.Bool.{false≢true}
 use Rattle.std.proofs.lemmas.List.{length-replicate}
 use Rattle.storage_model.specs.declared.faults.BusKind.{BusKind}
 use Rattle.storage_model.specs.declared.faults.BusKind.TheVariants.{Lost, NoResp, Bad, Late}
 use Rattle.array_edge.specs.Array.{ArrayState}
-use Rattle.bus_link.specs.Hits.{raised}
-use Rattle.bus_link.specs.Link.{Call}
 use Rattle.bus_link.specs.Script.{Script, armed, struck}
 use Rattle.bus_link.specs.declared.link.LinkEnd.{LinkEnd}
-use Rattle.bus_link.specs.declared.link.LinkEnd.TheVariants.{Bus as BusEnd}
-use Rattle.card_core.specs.Card.{CardState, sectors, set_up as card_set_up}
-use Rattle.card_core.specs.Response.{Response, Responds, if_queueing, manage_response, refused, response_to}
+use Rattle.card_core.specs.Card.{CardState}
+use Rattle.card_core.specs.Response.{Responds, manage_response, refused, response_to}
 use Rattle.card_core.specs.declared.ends.Dark.{Dark}
-use Rattle.card_link.specs.Behind.{Behind, behind}
-use Rattle.card_link.specs.Made.{CardMade, IsHeard, IsLost, after_response, choice_of, heard, hit_on, is_lost, response_seen, sent}
+use Rattle.card_link.specs.Behind.{Behind}
+use Rattle.card_link.specs.Made.{CardMade, IsHeard, IsLost, after_response, choice_of, hit_on, is_lost, response_seen, sent}
 use Rattle.cmd_words.specs.declared.command.Command.{Command}
 use Rattle.cmd_words.specs.declared.status.TheConstants.Status.{ILLEGAL_COMMAND}
 use Rattle.cq_engine.proofs.Fresh.{holds_fresh}
-use Rattle.cq_engine.specs.Holds.{Holds}
 use Rattle.cq_engine.specs.Standings.{OneOpen}
 use Rattle.cq_regs.specs.State.{Registers}
 use Rattle.cq_regs.specs.declared.slots.Progress.TheVariants.{Active}
 use Rattle.cq_regs.specs.declared.slots.Ringed.{Ringed}
 use Rattle.cq_schedule.specs.Order.{first_at}
 use Rattle.drv_core.specs.State.{is_recovering}
-use Rattle.drv_recover.specs.Recovery.{Discards, IsAt, IsCleared, all_cleared, cleaned, discard_queue, resumed, told_by}
+use Rattle.drv_recover.specs.Recovery.{Discards, IsAt, IsCleared, discard_queue, resumed, told_by}
 use Rattle.drv_recover.specs.declared.recovery.RecoveryState.{RecoveryState}
 use Rattle.drv_recover.specs.declared.recovery.RecoveryState.TheVariants as driver
 use Rattle.drv_recover.specs.declared.recovery.Step.{Step}
 use Rattle.drv_recover.specs.declared.recovery.Step.TheVariants.{Discard, Again}
 use Rattle.task_queue.specs.declared.queue.Place.{Place}
-use Rattle.task_queue.specs.Queue.{discarded, empty, slot}
+use Rattle.task_queue.specs.Queue.{empty, slot}
 use Rattle.host_laws.proofs.Held.{held_back}
-use Rattle.host_laws.proofs.Paths.{all_cleared_is, cleaned_is, path_at, set_up_cleaned, set_up_cleared, set_up_resumed}
+use Rattle.host_laws.proofs.Paths.{path_at, set_up_cleaned, set_up_cleared, set_up_resumed}
 use Rattle.world_state.specs.Path.{PathState, behind_path, plan_of, under_way}
-use Rattle.world_state.specs.Ties.{AreTied, HasSetUp, IsCardOf, IsScript, is_discarded, phase_words}
+use Rattle.world_state.specs.Ties.{AreTied, IsCardOf, IsScript, is_discarded, phase_words}
 
 -- a stopped engine has no phase under way, nor one without a task
 stopped_way : (stopped : Bool) (first : Option ℕ) → stopped ≡ true → cond stopped None first ≡ None

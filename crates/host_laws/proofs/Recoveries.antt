@@ -1,23 +1,19 @@
 -- The lines of the recovery's silent steps: the machine takes the same step.
-use Rattle.std.proofs.Common.{◌≡◌, ◌∙◌, ap₂, ◌⊎◌, ◌+◌, ◌-◌, ◌<◌, ℕ, inl, inr, get_or, arith, Bool, true, false, cond, not, List, [], ◌∷◌, Option, None, Some, map, min, option_map, is_some, fold, replicate, refl, ap, sym, subst, if◌then◌else◌}
+use Rattle.std.proofs.Common.{◌≡◌, ◌∙◌, ap₂, ◌⊎◌, ◌+◌, ◌-◌, ℕ, inl, inr, get_or, arith, Bool, true, false, List, [], ◌∷◌, Option, None, Some, map, min, option_map, refl, ap, sym, subst, if◌then◌else◌}
 use Rattle.std.proofs.lemmas.Bool.{false≢true}
 use Rattle.storage_model.specs.declared.block.Block.{Block}
 use Rattle.storage_model.specs.declared.faults.Letter.TheVariants.{Host as HostActs}
-use Rattle.storage_model.specs.declared.trace.Item.{Item}
 use Rattle.storage_machine.specs.Host.{is_silent, recovery_step}
 use Rattle.storage_machine.specs.Slots.{no_tasks}
 use Rattle.storage_machine.specs.declared.state.Event.TheVariants.{Untold}
 use Rattle.storage_machine.specs.declared.state.Owed.TheVariants.{Nothing}
-use Rattle.storage_machine.specs.declared.state.State.{State}
 use Rattle.storage_machine.specs.declared.state.Stop.TheVariants as stop
 use Rattle.storage_machine.specs.declared.state.Task.{Task}
 use Rattle.storage_order.specs.Events.{Happens}
-use Rattle.trace_effects.specs.Effects.{begun}
 use Rattle.array_edge.specs.Array.{ArrayState}
 use Rattle.bus_link.specs.Script.{Script}
 use Rattle.card_core.specs.Card.{CardState}
 use Rattle.cq_engine.specs.Outcome.{Holding}
-use Rattle.cq_regs.specs.Slots.{has_bit}
 use Rattle.cq_regs.specs.State.{Registers}
 use Rattle.cq_regs.specs.declared.slots.Ringed.{Ringed}
 use Rattle.cq_schedule.specs.Held.{slots}
@@ -43,8 +39,8 @@ use Rattle.host_laws.proofs.Quiet.{agrees_quiet, none_spent, not_busy}
 use Rattle.host_laws.proofs.Recovered.{at_place, none_cleared, none_rung, none_stopped}
 use Rattle.host_laws.proofs.TiesKept.{IsSilentStep}
 use Rattle.world_state.specs.Host.{host_lines}
-use Rattle.world_state.specs.Path.{PathState, holder, is_busy, job, plan_of, under_way}
-use Rattle.world_state.specs.Reading.{Context, blocks_held, data_by, data_of, is_done, recovery_of, spent_of, standing_at, state_of, stop_by, stop_of, task_at, tasks_of}
+use Rattle.world_state.specs.Path.{PathState, holder, job}
+use Rattle.world_state.specs.Reading.{Context, blocks_held, data_by, data_of, recovery_of, standing_at, state_of, stop_by, stop_of, task_at, tasks_of}
 use Rattle.world_state.specs.Stands.{Agrees, AreNamed, named_at, names, sent_of}
 use Rattle.world_state.specs.Ties.{AreTied}
 use Rattle.world_state.specs.Told.{Tells, Told}

@@ -1,17 +1,16 @@
 -- One slot more is rung, the last in the order of ringing.
-use Rattle.std.proofs.Common.{◌≡◌, ◌≢◌, ◌∙◌, ◌<◌, ◌≤◌, ◌+◌, ◌^◌, ◌==◌, ◌&&◌, ◌++◌, ℕ, zero, suc, Bool, true, false, cond, not, List, [], ◌∷◌, Option, None, Some, is_some, length, map, take, filter, find, nat_lt, nat_eq, refl, ap, sym, subst, arith, append-nil, eqb-true, take_all, lt-ltb, ltb-true, pow_mono, length-append, if◌then◌else◌, lit≤}
-use Rattle.std.proofs.lemmas.Bool.{eqb-false, false≢true}
+use Rattle.std.proofs.Common.{◌≡◌, ◌∙◌, ◌<◌, ◌≤◌, ◌^◌, ◌==◌, ◌&&◌, ◌++◌, ℕ, zero, suc, Bool, true, false, cond, not, List, [], ◌∷◌, Option, None, Some, length, map, filter, find, nat_lt, nat_eq, refl, ap, sym, subst, arith, append-nil, eqb-true, take_all, lt-ltb, pow_mono, if◌then◌else◌, lit≤}
+use Rattle.std.proofs.lemmas.Bool.{eqb-false}
 use Rattle.std.proofs.lemmas.List.{length-map, map-append}
 use Rattle.std.proofs.lemmas.List.Elements.{filter-append}
 use Rattle.std.proofs.lemmas.List.Folds.{find-append}
 use Rattle.std.proofs.lemmas.Nat.Bits.{bit_at-pow_other, bit_at-pow_same}
 use Rattle.std.specs.Option.{option_or}
-use Rattle.cq_regs.specs.declared.slots.Progress.{Progress}
-use Rattle.cq_regs.specs.declared.slots.Progress.TheVariants.{Idle, Rung}
+use Rattle.cq_regs.specs.declared.slots.Progress.TheVariants.{Rung}
 use Rattle.cq_regs.specs.declared.slots.Ringed.{Ringed}
 use Rattle.cq_regs.proofs.ProgressLaws.{progress_rung}
 use Rattle.cq_regs.proofs.RungLaws.{IsRing-with_first, length-ring}
-use Rattle.cq_regs.specs.Slots.{AreNotRung, IsRing, first_slots, has_bit, is_rung, newly_rung, progress_of, rings, rung, with_first}
+use Rattle.cq_regs.specs.Slots.{AreNotRung, IsRing, first_slots, has_bit, is_rung, newly_rung, progress_of, rings, rung}
 use Rattle.cq_schedule.specs.Order.{order_of}
 use Rattle.host_laws.proofs.Tags.{below_more, below_that, not_below, not_lower}
 

@@ -1,8 +1,7 @@
 -- Contents and numbers where a phase may be under way, which goes on unchanged.
-use Rattle.std.proofs.Common.{◌≡◌, ◌≢◌, ◌∙◌, ◌++◌, ◌+◌, ◌<◌, ◌≤◌, ◌==◌, ◌&&◌, ℕ, zero, suc, Bool, true, false, cond, List, [], ◌∷◌, Option, None, Some, IfSome, find, length, map, set, is_some, refl, ap, sym, subst, arith, add-zero}
+use Rattle.std.proofs.Common.{◌≡◌, ◌≢◌, ◌∙◌, ◌++◌, ◌+◌, ◌<◌, ◌≤◌, ℕ, zero, suc, Bool, true, false, cond, List, None, Some, IfSome, length, map, set, is_some, refl, ap, sym, subst, arith, add-zero}
 use Rattle.std.proofs.lemmas.Bool.{false≢true}
 use Rattle.std.specs.List.{range_with_len}
-use Rattle.storage_model.specs.declared.block.Block.{Block}
 use Rattle.storage_model.specs.declared.marks.Mark.{Mark}
 use Rattle.storage_model.specs.declared.plan.Plan.{Plan}
 use Rattle.array_edge.specs.Array.{ArrayState}
@@ -14,9 +13,9 @@ use Rattle.cq_schedule.specs.Held.{same}
 use Rattle.cq_schedule.specs.Order.{first_at, order_of}
 use Rattle.intent_store.specs.Intent.{shown_by}
 use Rattle.trace_effects.specs.Cuts.{places_of}
-use Rattle.world_state.specs.Path.{PathState, is_busy, plan_of, under_way}
+use Rattle.world_state.specs.Path.{PathState, plan_of, under_way}
 use Rattle.world_state.specs.Reading.{Context}
-use Rattle.world_state.specs.Stands.{Agrees, AreNamed, HasReadSoFar, IsDeferred, contents_of, marks_moved, sent_of}
+use Rattle.world_state.specs.Stands.{Agrees, AreNamed, HasReadSoFar, contents_of, marks_moved, sent_of}
 use Rattle.world_state.specs.Ties.{AreTied}
 use Rattle.host_laws.proofs.Dues.{found_holds}
 

@@ -1,14 +1,12 @@
 -- Lists of the tags' tasks: the first that is asked for, whether there is one, and the tasks after those below a tag were answered.
-use Rattle.std.proofs.Common.{◌≡◌, ◌≢◌, ◌∙◌, ◌+◌, ◌-◌, ◌<◌, ◌≤◌, ◌==◌, ◌&&◌, ◌||◌, ℕ, zero, suc, Bool, true, false, cond, not, List, [], ◌∷◌, Option, None, Some, length, map, option_map, position, nat_lt, get_or, refl, ap, sym, subst, arith, add-zero, eqb-true, eq-eqb, lt-ltb, ltb-true, ltb-false, if◌then◌else◌}
-use Rattle.std.proofs.lemmas.Bool.{false≢true}
-use Rattle.std.proofs.lemmas.List.FromFn.{get_or-map-range_with_len, length-map-range_with_len}
+use Rattle.std.proofs.Common.{◌≡◌, ◌≢◌, ◌+◌, ◌<◌, ◌≤◌, ◌==◌, ◌||◌, ℕ, zero, suc, Bool, true, false, Option, None, Some, map, option_map, position, nat_lt, refl, ap, subst, arith, add-zero, eq-eqb, lt-ltb, ltb-true, ltb-false, if◌then◌else◌}
+use Rattle.std.proofs.lemmas.List.FromFn.{length-map-range_with_len}
 use Rattle.std.specs.List.{list_any, position_or_len, range_with_len}
-use Rattle.storage_machine.specs.Slots.{asks, asks_of, changed, changed_task, has, id_of, slot_at, tag_of}
+use Rattle.storage_machine.specs.Slots.{asks, asks_of, changed}
 use Rattle.storage_machine.specs.declared.slots.Change.TheVariants.{Answer, Collect}
-use Rattle.storage_machine.specs.declared.slots.Question.{Question}
 use Rattle.storage_machine.specs.declared.slots.Question.TheVariants.{Collected as IsCollected, Done as IsDone}
 use Rattle.storage_machine.specs.declared.state.Standing.{Standing}
-use Rattle.storage_machine.specs.declared.state.Standing.TheVariants.{Rung, Named, Sent, Ready, Done, Collected, Held}
+use Rattle.storage_machine.specs.declared.state.Standing.TheVariants.{Done, Collected}
 use Rattle.storage_machine.specs.declared.state.Task.{Task}
 use Rattle.cq_regs.specs.declared.slots.Progress.{Progress}
 use Rattle.cq_regs.specs.declared.slots.Progress.TheVariants as progress

@@ -1,29 +1,26 @@
 -- Every event of the host keeps the ties.
-use Rattle.std.proofs.Common.{◌≡◌, ◌∙◌, ◌<◌, ◌^◌, ℕ, Bool, true, false, cond, not, ◌&&◌, ◌||◌, List, [], length, Option, None, Some, Result, Ok, Err, nat_eq, bit_and, inl, inr, refl, ap, sym, subst, eqb-true}
+use Rattle.std.proofs.Common.{◌≡◌, ◌∙◌, ℕ, Bool, true, false, cond, not, ◌&&◌, ◌||◌, [], length, None, Result, Ok, Err, nat_eq, bit_and, inl, inr, refl, ap, sym, subst, eqb-true}
 use Rattle.std.proofs.lemmas.Bool.{false≢true}
 use Rattle.array_edge.specs.Array.{ArrayState}
 use Rattle.bus_link.specs.Script.{Script, armed, struck}
 use Rattle.card_core.specs.Card.{CardState}
 use Rattle.storage_model.specs.declared.faults.BusKind.{BusKind}
 use Rattle.task_queue.specs.Queue.{empty}
-use Rattle.card_link.specs.Behind.{Behind}
 use Rattle.card_link.specs.Made.{CardMade}
 use Rattle.cq_regs.specs.State.{Registers}
-use Rattle.drv_core.specs.Event.{Collects, Does, Fails, Issues, Recovers, WritesFor, acknowledged, requests_after, rung_for}
-use Rattle.drv_core.specs.Judge.{judged}
+use Rattle.drv_core.specs.Event.{Collects, Does, Fails, Issues, Recovers, requests_after}
 use Rattle.drv_core.specs.State.{DriverState, is_recovering, layout_of}
 use Rattle.drv_core.specs.Work.{is_noticed, work_of}
 use Rattle.drv_core.specs.declared.act.Act.{Act}
 use Rattle.drv_core.specs.declared.act.Act.TheVariants.{Step as Stepped}
 use Rattle.drv_core.specs.declared.work.Work.{Work}
 use Rattle.drv_core.specs.declared.work.Work.TheVariants.{Recover, Collect, Fail, Issue}
-use Rattle.drv_jobs.specs.Changes.{issued_if}
 use Rattle.drv_jobs.specs.Next.{due_of}
 use Rattle.drv_jobs.specs.Sound.{IsSound}
 use Rattle.drv_jobs.specs.Standings.{Standings}
 use Rattle.drv_jobs.specs.declared.next.Due.{Due}
 use Rattle.drv_jobs.specs.declared.next.Hold.{Hold}
-use Rattle.drv_recover.specs.Recovery.{Does as Steps, Discards, discard_queue, IsAt, Silent, registers_after, resumed, state_after}
+use Rattle.drv_recover.specs.Recovery.{Does as Steps, discard_queue, IsAt, registers_after, resumed, state_after}
 use Rattle.drv_recover.specs.declared.recovery.RecoveryState.{RecoveryState}
 use Rattle.drv_recover.specs.declared.recovery.RecoveryState.TheVariants as driver
 use Rattle.drv_recover.specs.declared.recovery.Step.{Step}
@@ -38,7 +35,7 @@ use Rattle.host_laws.proofs.IssuedRuns.{tied_issued}
 use Rattle.host_laws.proofs.Paths.{acknowledged_is, all_cleared_is, cleaned_is, halted_is, path_at, path_is, same_array, same_card, same_script}
 use Rattle.host_laws.proofs.Recovered.{Discarding, at_place, card_emptied, cleared_at, discarding, done, emptied_at, missed, script_armed, script_struck, tied_asked, tied_cleaned, tied_cleared, tied_resumed, unheard}
 use Rattle.world_state.specs.Host.{HostEvent, cause_of, moment_of}
-use Rattle.world_state.specs.Path.{PathState, behind_path, layout, plan_of}
+use Rattle.world_state.specs.Path.{PathState, behind_path, plan_of}
 use Rattle.world_state.specs.Ties.{AreTied}
 
 -- what there was to do

@@ -1,5 +1,5 @@
 -- Lines as a sink takes them, and what has to have happened for some of them to be printed.
-use Rattle.std.specs.Prelude.{◌⊎◌, ◌≡◌, ◌<◌, ◌≤◌, ℕ, ◌+◌, ◌-◌, Bool, true, false, List, [], ◌∷◌, ◌++◌, length, take, count_by, Option, None, Some, Result, Ok, Err}
+use Rattle.std.specs.Prelude.{◌⊎◌, ◌≡◌, ◌<◌, ◌≤◌, ℕ, ◌+◌, ◌-◌, Bool, true, false, List, [], ◌∷◌, ◌++◌, length, take, count_by, Option, None, Some, Result, Err}
 use Rattle.storage_model.specs.Count.{Count, Later}
 use Rattle.storage_model.specs.declared.ends.Halt.{Halt}
 use Rattle.storage_model.specs.declared.ends.Halt.TheVariants.{SinkFailed, OpenFault}

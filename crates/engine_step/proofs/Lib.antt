@@ -1,0 +1,2 @@
+pub mod ReadyMasks
+pub mod Taken
