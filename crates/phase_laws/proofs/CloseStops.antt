@@ -73,7 +73,7 @@ kind_low kind command blocks b e is =
     let here : befalls (Bad b) command blocks ≡ true = sym (ap (λ x. befalls x command blocks) is) ∙ e in
     leb-true b blocks (and_parts (is_execute command) (nat_le b blocks) here).1
 
-hit_low : (o : Option Hit) (command : Command) (blocks b : ℕ) → if_of_kind o command blocks ≡ Some (Bad b) → b ≤ blocks
+pub hit_low : (o : Option Hit) (command : Command) (blocks b : ℕ) → if_of_kind o command blocks ≡ Some (Bad b) → b ≤ blocks
 hit_low None command blocks b e = absurd (none-some (Bad b) e)
 hit_low (Some hit) command blocks b e = by_kind (befalls hit.kind command blocks) refl e
   where
@@ -115,7 +115,7 @@ pub unkept_part : (p : PathState) (slot : ℕ) (i : InPhase p slot) → must_kee
 unkept_part p slot i must =
     and_right (i.h.moved == phase_blocks (job p i.id)) (false || not (must_keep (plan_of p).through (job p i.id))) (ap not must)
 
-close_sent : (hit : Option BusKind) (got : Result ℕ Dark) (s : Script) → (after_close hit got s).sent ≡ s.sent
+pub close_sent : (hit : Option BusKind) (got : Result ℕ Dark) (s : Script) → (after_close hit got s).sent ≡ s.sent
 close_sent None got s = refl
 close_sent (Some Lost) got s = refl
 close_sent (Some NoResp) got s = refl

@@ -111,7 +111,7 @@ finished_keeps card phase (Err PowerLost) = card_itself card
 pub notice_is : (plan : Plan) (j : Job) (int : Bool) → int ≡ asks_notice plan j → int ≡ false → (plan.coalesce == 0) ≡ false
 notice_is plan j int is none = (or_parts (plan.coalesce == 0) (is_direct j) (sym is ∙ none)).0
 
-data_notice : (l : Layout) (slot : ℕ) (j : Job) (int : Bool) (task : DataTask) → DataJob l slot j int task → task.desc.int ≡ int
+pub data_notice : (l : Layout) (slot : ℕ) (j : Job) (int : Bool) (task : DataTask) → DataJob l slot j int task → task.desc.int ≡ int
 data_notice l slot j int task (reads sector blocks high is e) = ap (λ x. x.desc.int) e
 data_notice l slot j int task (writes sector blocks fill forced reliable high is e) = ap (λ x. x.desc.int) e
 

@@ -52,7 +52,7 @@ use Rattle.phase_laws.proofs.Jobs.{DataJob, reads, writes}
 use Rattle.phase_laws.proofs.Moves.{TellsSo, free_is, not_stopped, plan_is, untold_is, way_is}
 use Rattle.phase_laws.proofs.Parts.{KeepsScript}
 use Rattle.phase_laws.proofs.Phased.{Moves, base_after, broken_effect, execute_holds, pend_after, pend_with, phase_bus, stopped_by}
-use Rattle.phase_laws.proofs.StopTells.{bars_are, calm_is, data_blocks, empty_is, marks_within, named_is}
+use Rattle.phase_laws.proofs.StopTells.{Stays, bars_are, calm_is, data_blocks, empty_is, marks_within, named_is}
 use Rattle.phase_laws.proofs.Stopping.{base_is, broken_moves, bus_named, context_after, data_bars, in_contents, jobs_are, marks_by, no_barrier, number_is, pend_is, state_stopped, stop_regs, stopped_path}
 use Rattle.phase_laws.proofs.Tags.{of_some}
 use Rattle.phase_laws.proofs.Tolds.{marks_are}
@@ -104,7 +104,7 @@ names_are : (l : Layout) (slot : ℕ) (j : Job) (int : Bool) (task : DataTask) �
 names_are l slot j int task (reads sector blocks high is e) = ap named_by is ∙ sym (ap (λ v. is_named v.desc.start v.desc.blocks) e)
 names_are l slot j int task (writes sector blocks fill forced reliable high is e) = ap named_by is ∙ sym (ap (λ v. is_named v.desc.start v.desc.blocks) e)
 
-may_keep_all : (l : Layout) (slot : ℕ) (j : Job) (int : Bool) (task : DataTask) (through : Bool) (count : ℕ) → DataJob l slot j int task → must_keep through j ≡ true
+pub may_keep_all : (l : Layout) (slot : ℕ) (j : Job) (int : Bool) (task : DataTask) (through : Bool) (count : ℕ) → DataJob l slot j int task → must_keep through j ≡ true
     → count ≡ task.desc.blocks → may_keep through j count true ≡ true
 may_keep_all l slot j int task through count (reads sector blocks high is e) must all = absurd (false≢true (sym (ap (must_keep through) is) ∙ must))
 may_keep_all l slot j int task through count (writes sector blocks fill forced reliable high is e) must all =
@@ -130,11 +130,19 @@ kept_contents p w x y z g c s o k slot i n named j =
     ∙ ap (λ ms. contents_with (keep_base to b.base ms) (keep_pend to ms)) pend
     ∙ ap (λ xs. contents_with (keep_base to xs (k.pend ++ marks_moved p)) (keep_pend to (k.pend ++ marks_moved p))) (base_is p o k)
 
-kept_agrees : (p : PathState) (a : ArrayState) (slot : ℕ) (i : InPhase p slot) (w x y z : ℕ) (g : Holding) (card : CardState) (s : Script) (a' : ArrayState)
-    (o : OrderState) (k : Context) (named : List ℕ) → KeptTold p a slot i w x y z g card s a' → Agrees p a k
-    → AreNamed (stopped_path p (stop_regs p w x y z) g card s) named
-    → Agrees (stopped_path p (stop_regs p w x y z) g card s) a' (context_after (state_of p o k) k (job p i.id) i.h.moved true p.script.sent named)
-kept_agrees p a slot i w x y z g card s a' o k named st h are =
+-- what a phase leaves of the store whose write was kept
+pub record KeptLeft (p : PathState) (a : ArrayState) (slot : ℕ) (i : InPhase p slot) (card : CardState) (a' : ArrayState) : Type 0 where
+  pub told : is_some a'.told ≡ is_some a.told
+  pub store : IsStore card.store
+  pub turns : Turns (keeps (is_named i.h.task.desc.start i.h.task.desc.blocks)) p.card.store a card.store a'
+  pub is_data : DataJob (layout p) slot (job p i.id) (asks_notice (plan_of p) (job p i.id)) i.h.task
+  pub few : i.h.moved ≤ i.h.task.desc.blocks
+  pub must : must_keep (plan_of p).through (job p i.id) ≡ true
+
+pub kept_stays : (p : PathState) (a : ArrayState) (slot : ℕ) (i : InPhase p slot) (w x y z : ℕ) (g : Holding) (card : CardState) (s : Script) (a' : ArrayState)
+    (o : OrderState) (k : Context) (n : ℕ) (named : List ℕ) → KeptLeft p a slot i card a' → Agrees p a k
+    → Stays (stopped_path p (stop_regs p w x y z) g card s) a' (context_after (state_of p o k) k (job p i.id) i.h.moved true n named)
+kept_stays p a slot i w x y z g card s a' o k n named st h =
     let b : State = state_of p o k in
     let int = asks_notice (plan_of p) (job p i.id) in
     let j = no_barrier (layout p) slot (job p i.id) int i.h.task st.is_data in
@@ -151,16 +159,11 @@ kept_agrees p a slot i w x y z g card s a' o k named st h are =
     let long = length-keep_base (named_by (job p i.id)) b.base (pend_with b (job p i.id) i.h.moved) in
     let base : length b.base ≤ 65536 = subst (λ (v : List Block). length v ≤ 65536) (sym (base_is p o k)) h.few in
     let stands : StoreStands (contents_with (base_after b (job p i.id) i.h.moved true) (pend_after b (job p i.id) i.h.moved true ++ [])) card.store a' =
-    subst (λ v. StoreStands v card.store a') (sym (kept_contents p w x y z g card s o k slot i p.script.sent named st.is_data))
+    subst (λ v. StoreStands v card.store a') (sym (kept_contents p w x y z g card s o k slot i n named st.is_data))
     (st.turns (contents_of p k) h.store) in
     record {
-      told = told;
-      tied = st.tied;
-      number = st.sent;
-      named = are;
       store = stands;
       within = kept_within (named_by (job p i.id)) b.base (pend_with b (job p i.id) i.h.moved) both;
-      read = tt;
       few = omega (arith, long, base);
       deferred = λ through staged kept fewer.
           let ms : List Mark = pend_after b (job p i.id) i.h.moved true in
@@ -173,6 +176,26 @@ kept_agrees p a slot i w x y z g card s a' o k named st h are =
                 let parts = or_parts b.kept (must_keep b.plan.through (job p i.id)) free in
                 absurd (false≢true (sym (sym (ap (λ (v : Plan). must_keep v.through (job p i.id)) (plan_is p o k)) ∙ parts.1) ∙ st.must))
           ];
+    }
+
+kept_agrees : (p : PathState) (a : ArrayState) (slot : ℕ) (i : InPhase p slot) (w x y z : ℕ) (g : Holding) (card : CardState) (s : Script) (a' : ArrayState)
+    (o : OrderState) (k : Context) (named : List ℕ) → KeptTold p a slot i w x y z g card s a' → Agrees p a k
+    → AreNamed (stopped_path p (stop_regs p w x y z) g card s) named
+    → Agrees (stopped_path p (stop_regs p w x y z) g card s) a' (context_after (state_of p o k) k (job p i.id) i.h.moved true p.script.sent named)
+kept_agrees p a slot i w x y z g card s a' o k named st h are =
+    let left : KeptLeft p a slot i card a' =
+    record { told = st.told; store = st.store; turns = st.turns; is_data = st.is_data; few = st.few; must = st.must } in
+    let stays = kept_stays p a slot i w x y z g card s a' o k p.script.sent named left h in
+    record {
+      told = st.told ∙ h.told;
+      tied = st.tied;
+      number = st.sent;
+      named = are;
+      store = stays.store;
+      within = stays.within;
+      read = tt;
+      few = stays.few;
+      deferred = stays.deferred;
     }
 
 pub kept_tells : (p : PathState) (a : ArrayState) (slot : ℕ) (i : InPhase p slot) (w x y z : ℕ) (g : Holding) (card : CardState) (s : Script) (a' : ArrayState)

@@ -28,3 +28,10 @@ mod KeptStops
 mod CloseStops
 mod DirectLost
 mod LostDirects
+mod Slotted
+mod Finished
+mod Orders
+mod FinishState
+mod FinishData
+mod FinishTells
+mod CloseEnds

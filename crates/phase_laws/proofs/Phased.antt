@@ -52,7 +52,7 @@ with_blocks s job count kept = record s {
   kept = kept_after s job count kept;
 }
 
-blocks_state : (s : State) (job : Job) (count : ℕ) (kept : Bool) → after_blocks s job count kept ≡ with_blocks s job count kept
+pub blocks_state : (s : State) (job : Job) (count : ℕ) (kept : Bool) → after_blocks s job count kept ≡ with_blocks s job count kept
 unfolding after_blocks after_keep
 blocks_state s job count true = refl
 blocks_state s job count false = refl
@@ -119,7 +119,7 @@ direct_holds s slot id count n kept kind job is number heard m =
 
 -- ---- what the line does
 
-phase_effect : (s : State) (slot id count n : ℕ) (kept : Bool) (kind : Option BusKind) (job : Job) → tag_due (due s) ≡ slot → hit s ≡ kind
+pub phase_effect : (s : State) (slot id count n : ℕ) (kept : Bool) (kind : Option BusKind) (job : Job) → tag_due (due s) ≡ slot → hit s ≡ kind
     → job_of s.plan.jobs id ≡ job → effect (told s) (PhaseLine n id count kept) ≡ phase_by (told s) job slot kind n id count kept
 unfolding effect after_phase
 phase_effect s slot id count n kept kind job tag is j =

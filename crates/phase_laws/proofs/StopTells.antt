@@ -112,8 +112,21 @@ pub record Halted (p : PathState) (a : ArrayState) (slot : ℕ) (i : InPhase p s
   pub before : IsBeforeFault p.script.hit i.h.moved
   pub few : i.h.moved ≤ i.h.task.desc.blocks
 
+-- what a phase leaves of the store, once it broke off or ended without keeping
+pub record Left (p : PathState) (a : ArrayState) (slot : ℕ) (i : InPhase p slot) (card : CardState) (a' : ArrayState) : Type 0 where
+  pub fails : FailTold p a (job p i.id) card a'
+  pub is_data : DataJob (layout p) slot (job p i.id) (asks_notice (plan_of p) (job p i.id)) i.h.task
+  pub few : i.h.moved ≤ i.h.task.desc.blocks
+
+-- contents, marks and pages of a path in which no phase is under way
+pub record Stays (q : PathState) (a' : ArrayState) (c : Context) : Type 0 where
+  pub store : StoreStands (contents_of q c) q.card.store a'
+  pub within : All (IsWithin c.base) c.pend
+  pub few : length c.base ≤ 65536
+  pub deferred : IsDeferred q c (shown_by a')
+
 broken_deferred : (p : PathState) (a : ArrayState) (slot : ℕ) (i : InPhase p slot) (w x y z : ℕ) (g : Holding) (card : CardState) (s : Script) (a' : ArrayState)
-    (o : OrderState) (k : Context) (n : ℕ) (named : List ℕ) → Halted p a slot i w x y z g card s a' → Agrees p a k
+    (o : OrderState) (k : Context) (n : ℕ) (named : List ℕ) → Left p a slot i card a' → Agrees p a k
     → IsDeferred (stopped_path p (stop_regs p w x y z) g card s) (context_after (state_of p o k) k (job p i.id) i.h.moved false n named) (shown_by a')
 broken_deferred p a slot i w x y z g card s a' o k n named st h through staged kept few =
     let b : State = state_of p o k in
@@ -140,11 +153,10 @@ broken_deferred p a slot i w x y z g card s a' o k n named st h through staged k
           subst (λ v. IfSome (shown_by a') (λ pages. pages ≡ v)) (sym (base_is p o k)) now
     ]
 
-pub broken_agrees : (p : PathState) (a : ArrayState) (slot : ℕ) (i : InPhase p slot) (w x y z : ℕ) (g : Holding) (card : CardState) (s : Script) (a' : ArrayState)
-    (o : OrderState) (k : Context) (named : List ℕ) → Halted p a slot i w x y z g card s a' → Agrees p a k
-    → AreNamed (stopped_path p (stop_regs p w x y z) g card s) named
-    → Agrees (stopped_path p (stop_regs p w x y z) g card s) a' (context_after (state_of p o k) k (job p i.id) i.h.moved false p.script.sent named)
-broken_agrees p a slot i w x y z g card s a' o k named st h are =
+pub broken_stays : (p : PathState) (a : ArrayState) (slot : ℕ) (i : InPhase p slot) (w x y z : ℕ) (g : Holding) (card : CardState) (s : Script) (a' : ArrayState)
+    (o : OrderState) (k : Context) (n : ℕ) (named : List ℕ) → Left p a slot i card a' → Agrees p a k
+    → Stays (stopped_path p (stop_regs p w x y z) g card s) a' (context_after (state_of p o k) k (job p i.id) i.h.moved false n named)
+broken_stays p a slot i w x y z g card s a' o k n named st h =
     let b : State = state_of p o k in
     let j = no_barrier (layout p) slot (job p i.id) (asks_notice (plan_of p) (job p i.id)) i.h.task st.is_data in
     let few : i.h.moved ≤ blocks_of (job p i.id) =
@@ -157,17 +169,31 @@ broken_agrees p a slot i w x y z g card s a' o k named st h are =
     subst (λ (v : List Mark). All (IsWithin b.base) v) (sym (pend_is p o k))
     (subst (λ (v : List Block). All (IsWithin v) k.pend) (sym (base_is p o k)) h.within) in
     record {
+      store =
+          subst (λ v. StoreStands v card.store a') (sym (broken_contents p w x y z g card s o k slot i n named j))
+          (st.fails.turns (contents_of p k) h.store);
+      within = All-append (IsWithin b.base) b.pend (marks_of b (job p i.id) i.h.moved) old marks;
+      few = subst (λ (v : List Block). length v ≤ 65536) (sym (base_is p o k)) h.few;
+      deferred = broken_deferred p a slot i w x y z g card s a' o k n named st h;
+    }
+
+pub broken_agrees : (p : PathState) (a : ArrayState) (slot : ℕ) (i : InPhase p slot) (w x y z : ℕ) (g : Holding) (card : CardState) (s : Script) (a' : ArrayState)
+    (o : OrderState) (k : Context) (named : List ℕ) → Halted p a slot i w x y z g card s a' → Agrees p a k
+    → AreNamed (stopped_path p (stop_regs p w x y z) g card s) named
+    → Agrees (stopped_path p (stop_regs p w x y z) g card s) a' (context_after (state_of p o k) k (job p i.id) i.h.moved false p.script.sent named)
+broken_agrees p a slot i w x y z g card s a' o k named st h are =
+    let left : Left p a slot i card a' = record { fails = st.fails; is_data = st.is_data; few = st.few } in
+    let stays = broken_stays p a slot i w x y z g card s a' o k p.script.sent named left h in
+    record {
       told = st.fails.told ∙ h.told;
       tied = st.tied;
       number = st.sent;
       named = are;
-      store =
-          subst (λ v. StoreStands v card.store a') (sym (broken_contents p w x y z g card s o k slot i p.script.sent named j))
-          (st.fails.turns (contents_of p k) h.store);
-      within = All-append (IsWithin b.base) b.pend (marks_of b (job p i.id) i.h.moved) old marks;
+      store = stays.store;
+      within = stays.within;
       read = tt;
-      few = subst (λ (v : List Block). length v ≤ 65536) (sym (base_is p o k)) h.few;
-      deferred = broken_deferred p a slot i w x y z g card s a' o k p.script.sent named st h;
+      few = stays.few;
+      deferred = stays.deferred;
     }
 
 -- ---- by the bus

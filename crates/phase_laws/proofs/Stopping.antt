@@ -228,7 +228,7 @@ may_move_data : (l : Layout) (slot : ℕ) (j : Job) (int : Bool) (task : DataTas
 may_move_data l slot j int task most count (reads sector blocks high is e) few = ap (λ x. may_move x most count) is ∙ le-leb count most few
 may_move_data l slot j int task most count (writes sector blocks fill forced reliable high is e) few = ap (λ x. may_move x most count) is ∙ le-leb count most few
 
-unkept_data : (l : Layout) (slot : ℕ) (j : Job) (int : Bool) (task : DataTask) (through : Bool) (count : ℕ) → DataJob l slot j int task
+pub unkept_data : (l : Layout) (slot : ℕ) (j : Job) (int : Bool) (task : DataTask) (through : Bool) (count : ℕ) → DataJob l slot j int task
     → may_keep through j count false ≡ true
 unkept_data l slot j int task through count (reads sector blocks high is e) = ap (λ x. may_keep through x count false) is
 unkept_data l slot j int task through count (writes sector blocks fill forced reliable high is e) = ap (λ x. may_keep through x count false) is

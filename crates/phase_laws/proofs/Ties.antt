@@ -1,5 +1,5 @@
 -- The ties after an event of a phase, whichever is due.
-use Rattle.std.proofs.Common.{◌≡◌, refl, sym, ◌∙◌, ap, subst}
+use Rattle.std.proofs.Common.{◌≡◌, ◌≢◌, refl, sym, ◌∙◌, ap, subst}
 use Rattle.std.specs.Prelude.{true, false, Option}
 use Rattle.std.proofs.lemmas.Bool.{false≢true}
 use Rattle.array_edge.specs.Array.{ArrayState}
@@ -10,7 +10,7 @@ use Rattle.cq_engine.specs.Event.{Does}
 use Rattle.cq_engine.specs.Outcome.{outcome_of}
 use Rattle.bus_link.specs.declared.link.Cause.{Cause}
 use Rattle.cq_engine.specs.declared.did.Did.{Did}
-use Rattle.cq_engine.specs.declared.did.Did.TheVariants.{Stopped}
+use Rattle.cq_engine.specs.declared.did.Did.TheVariants.{Idle, Sent, Direct, Moved, Finished, Dropped, Stopped}
 use Rattle.cq_schedule.specs.Held.{remembered}
 use Rattle.cq_schedule.specs.Meaning.{HasItsSlot, IsDue}
 use Rattle.cq_schedule.specs.declared.rules.Due.{Due}
@@ -21,12 +21,13 @@ use Rattle.world_state.specs.Laws.{StateLaws}
 use Rattle.world_state.specs.Path.{PathState, behind_path}
 use Rattle.world_state.specs.Steps.{EngineSteps, is_of_phase}
 use Rattle.world_state.specs.Ties.{AreTied}
-use Rattle.phase_laws.specs.Laws.{CloseSteps, KeepsTies, LostSteps, is_block, is_close}
+use Rattle.phase_laws.specs.Laws.{KeepsTies, LostSteps, is_block, is_close}
 use Rattle.phase_laws.proofs.BlockAll.{block_tells}
 use Rattle.phase_laws.proofs.BlockDarks.{block_darkens}
 use Rattle.phase_laws.proofs.Darks.{DarkensSo}
 use Rattle.phase_laws.proofs.Moves.{TellsSo}
 use Rattle.phase_laws.proofs.Blocks.{block_ties, host_at}
+use Rattle.phase_laws.proofs.CloseEnds.{close_ends}
 use Rattle.phase_laws.proofs.CloseStops.{close_stops}
 use Rattle.phase_laws.proofs.Closes.{close_ties}
 use Rattle.phase_laws.proofs.Directs.{direct_ties}
@@ -102,33 +103,51 @@ block_steps p a p' a' did phase e test t =
 pub closes_keep : KeepsTies is_close
 closes_keep p a p' a' did phase e test t = phases_keep p a p' a' did phase e (close_of_phase p e.event.acts.due test) t
 
+-- the engine stopped, or it didn't
+data Halts (did : Did) : Type 0 where
+  halts : (cause : Cause) → did ≡ Stopped cause → Halts did
+  goes_on : ((cause : Cause) → did ≢ Stopped cause) → is_dark did ≡ false → Halts did
+
+halts_or : (did : Did) → Halts did
+halts_or Idle = goes_on (λ cause h. absurd (cc h)) refl
+halts_or (Sent command) = goes_on (λ cause h. absurd (cc h)) refl
+halts_or (Direct slot) = goes_on (λ cause h. absurd (cc h)) refl
+halts_or (Moved slot) = goes_on (λ cause h. absurd (cc h)) refl
+halts_or (Finished slot) = goes_on (λ cause h. absurd (cc h)) refl
+halts_or (Dropped slot why) = goes_on (λ cause h. absurd (cc h)) refl
+halts_or (Stopped cause) = halts cause refl
+
 close_by : (p : PathState) (a : ArrayState) (p' : PathState) (a' : ArrayState) (did : Did) (phase : Option Phase) (e : EngineEvent p a p' a' did phase) (due : Due)
     → is_close p due ≡ true → AreTied p → AreTied p' → StateLaws → IsDue (remembered p.engine.held p.regs) p.regs p.memory due
     → HasItsSlot (remembered p.engine.held p.regs) p.regs due
     → Does CardMade (behind_path p a) (behind e.card a' p'.script) (host_at p) p.memory p'.memory (outcome_of did e.event.left.held e.event.left.regs) due
-    → (cause : Cause) → did ≡ Stopped cause
+    → Halts did
     → (is_dark did ≡ false → TellsSo EngineActs p a (engine_lines p p' did phase) p' a')
     × (is_dark did ≡ true → DarkensSo p a (engine_lines p p' did phase) p' a')
-close_by p a p' a' did phase e Rest test t t' laws due has does cause is = absurd (false≢true test)
-close_by p a p' a' did phase e Tick test t t' laws due has does cause is = absurd (false≢true test)
-close_by p a p' a' did phase e Poll test t t' laws due has does cause is = absurd (false≢true test)
-close_by p a p' a' did phase e (Address slot) test t t' laws due has does cause is = absurd (false≢true test)
-close_by p a p' a' did phase e (Execute slot) test t t' laws due has does cause is = absurd (false≢true test)
-close_by p a p' a' did phase e (Serve slot) test t t' laws due has does cause is = absurd (false≢true test)
-close_by p a p' a' did phase e (NextBlock slot k) test t t' laws due has does cause is = absurd (false≢true test)
-close_by p a p' a' did phase e (Close slot) test t t' laws due has does cause is =
+close_by p a p' a' did phase e Rest test t t' laws due has does how = absurd (false≢true test)
+close_by p a p' a' did phase e Tick test t t' laws due has does how = absurd (false≢true test)
+close_by p a p' a' did phase e Poll test t t' laws due has does how = absurd (false≢true test)
+close_by p a p' a' did phase e (Address slot) test t t' laws due has does how = absurd (false≢true test)
+close_by p a p' a' did phase e (Execute slot) test t t' laws due has does how = absurd (false≢true test)
+close_by p a p' a' did phase e (Serve slot) test t t' laws due has does how = absurd (false≢true test)
+close_by p a p' a' did phase e (NextBlock slot k) test t t' laws due has does how = absurd (false≢true test)
+close_by p a p' a' did phase e (Close slot) test t t' laws due has does (halts cause is) =
     close_stops p a p' a' did phase e slot t t' laws due has does cause is
+close_by p a p' a' did phase e (Close slot) test t t' laws due has does (goes_on apart lit) = (
+  λ _. close_ends p a p' a' did phase e slot t t' laws due has does apart,
+  λ dark. absurd (false≢true (sym lit ∙ dark)),
+)
 
--- the end of a data phase that stops the engine
-pub close_steps : CloseSteps
-close_steps p a p' a' did phase e test cause is t =
+-- the end of a data phase, in full
+pub close_steps : EngineSteps is_close true
+close_steps p a p' a' did phase e test t =
     let t' = closes_keep p a p' a' did phase e test t in
     record {
       ties = λ _. t';
       tells = λ laws lit.
-          (close_by p a p' a' did phase e e.event.acts.due test t t' laws e.event.acts.is_due e.event.acts.slot e.event.acts.does cause is).0 lit;
+          (close_by p a p' a' did phase e e.event.acts.due test t t' laws e.event.acts.is_due e.event.acts.slot e.event.acts.does (halts_or did)).0 lit;
       darkens = λ laws dark.
-          (close_by p a p' a' did phase e e.event.acts.due test t t' laws e.event.acts.is_due e.event.acts.slot e.event.acts.does cause is).1 dark;
+          (close_by p a p' a' did phase e e.event.acts.due test t t' laws e.event.acts.is_due e.event.acts.slot e.event.acts.does (halts_or did)).1 dark;
     }
 
 -- a direct command that was lost on the bus

@@ -1,7 +1,6 @@
 -- What an event of a phase keeps, by what is due.
 use Rattle.std.specs.Prelude.{◌≡◌, ℕ, Bool, true, false, Option, Some}
 use Rattle.array_edge.specs.Array.{ArrayState}
-use Rattle.bus_link.specs.declared.link.Cause.{Cause}
 use Rattle.bus_link.specs.declared.link.Cause.TheVariants.{Bus as BusFault}
 use Rattle.card_core.specs.declared.phase.Phase.{Phase}
 use Rattle.cq_engine.specs.declared.did.Did.{Did}
@@ -28,13 +27,6 @@ is_block p due = false
 abbrev pub is_close : PathState → Due → Bool
 is_close p (Close slot) = true
 is_close p due = false
-
--- the end of a data phase that stops the engine: a late status, a fault of the flash, or the loss of power
-abbrev pub CloseSteps : Type 0
-CloseSteps =
-    (p : PathState) (a : ArrayState) (p' : PathState) (a' : ArrayState) (did : Did) (phase : Option Phase) (e : EngineEvent p a p' a' did phase)
-    → is_close p e.event.acts.due ≡ true → (cause : Cause) → did ≡ Stopped cause → AreTied p
-    → EngineStep p a p' a' did phase
 
 -- a direct command that was lost on the bus
 abbrev pub LostSteps : Type 0
