@@ -77,7 +77,7 @@ task_so id far = record { id = id; standing = far }
 
 -- ---- the cut behind a phase that broke off
 
-owed_either : (P : Owed → Type 0) → ((n id : ℕ) (kind : BusKind) → P (BusOwed n id kind)) → ((id : ℕ) → P (FlashOwed id))
+pub owed_either : (P : Owed → Type 0) → ((n id : ℕ) (kind : BusKind) → P (BusOwed n id kind)) → ((id : ℕ) → P (FlashOwed id))
     → (hit : Option BusKind) (n id count : ℕ) → P (owed_by hit false n id count)
 owed_either P bus flash None n id count = flash id
 owed_either P bus flash (Some Lost) n id count = bus n id Lost
@@ -90,7 +90,7 @@ owed_either P bus flash (Some (Bad b)) n id count = by_block (count + 1 == b)
     by_block false = flash id
 
 -- the cut may come next, and no cut came before
-abbrev CutNext : State → Job → ℕ → ℕ → Owed → Type 0
+abbrev pub CutNext : State → Job → ℕ → ℕ → Owed → Type 0
 CutNext s job count n owed =
     (goes_on (broken s job count false n owed) owed Cut ≡ true) × Fits (broken s job count false n owed) Cut × (is_dark owed ≡ false)
 
@@ -102,21 +102,21 @@ flash_cut : (s : State) (job : Job) (count n id : ℕ) → CutNext s job count n
 unfolding line_rule holds cut_holds
 flash_cut s job count n id = (refl, record { line = refl; stands = refl; first = refl }, refl)
 
-cut_next : (s : State) (job : Job) (count n id : ℕ) (hit : Option BusKind) → CutNext s job count n (owed_by hit false n id count)
+pub cut_next : (s : State) (job : Job) (count n id : ℕ) (hit : Option BusKind) → CutNext s job count n (owed_by hit false n id count)
 cut_next s job count n id hit =
     owed_either (CutNext s job count n) (λ m i kind. bus_cut s job count n m i kind) (λ i. flash_cut s job count n i) hit n id count
 
 -- ---- what the state tells of requests
 
-slots_long : (p : PathState) (o : OrderState) (k : Context) → length (state_of p o k).slots ≡ 32
+pub slots_long : (p : PathState) (o : OrderState) (k : Context) → length (state_of p o k).slots ≡ 32
 unfolding state_of tasks_of slots
 slots_long p o k = length-map-range_with_len (task_at p) 0 32
 
-data_long : (p : PathState) (o : OrderState) (k : Context) → length (state_of p o k).data ≡ 32
+pub data_long : (p : PathState) (o : OrderState) (k : Context) → length (state_of p o k).data ≡ 32
 unfolding state_of data_of slots
 data_long p o k = length-map-range_with_len (λ tag. data_by p tag (holder p tag)) 0 32
 
-slot_so : (p : PathState) (o : OrderState) (k : Context) (tag : ℕ) → tag < 32 → slot_at (state_of p o k).slots tag ≡ task_at p tag
+pub slot_so : (p : PathState) (o : OrderState) (k : Context) (tag : ℕ) → tag < 32 → slot_at (state_of p o k).slots tag ≡ task_at p tag
 unfolding state_of tasks_of slots
 slot_so p o k tag within = get_or-map-range_with_len (task_at p) 0 32 tag tag None within (zero-add tag)
 
@@ -124,7 +124,7 @@ data_so : (p : PathState) (o : OrderState) (k : Context) (tag : ℕ) → tag < 3
 unfolding state_of data_of slots
 data_so p o k tag within = get_or-map-range_with_len (λ t. data_by p t (holder p t)) 0 32 tag tag [] within (zero-add tag)
 
-ids_back : (o : Option ℕ) (far : Standing) → option_map (λ task. task.id) (option_map (λ id. task_so id far) o) ≡ o
+pub ids_back : (o : Option ℕ) (far : Standing) → option_map (λ task. task.id) (option_map (λ id. task_so id far) o) ≡ o
 ids_back None far = refl
 ids_back (Some id) far = refl
 
@@ -144,7 +144,7 @@ task_issued : (p : PathState) (tag : ℕ) (o : Option ℕ)
 task_issued p tag None = tt
 task_issued p tag (Some id) = standing_issued (is_recovering p.driver.recovery) (is_done p tag) (progress_of p.regs.ring tag)
 
-all_issued : (p : PathState) (o : OrderState) (k : Context) (tag : ℕ) → IfSome (slot_at (state_of p o k).slots tag) (λ task. asks_of Issued task.standing ≡ true)
+pub all_issued : (p : PathState) (o : OrderState) (k : Context) (tag : ℕ) → IfSome (slot_at (state_of p o k).slots tag) (λ task. asks_of Issued task.standing ≡ true)
 all_issued p o k tag =
     let I : Option Task → Type 0 = λ v. IfSome v (λ task. asks_of Issued task.standing ≡ true) in
     elim (cases_lt tag 32) [
@@ -154,7 +154,7 @@ all_issued p o k tag =
           subst I (sym (get_or_past (state_of p o k).slots tag None (omega (arith, long, past)))) tt
     ]
 
-vacant_data : (p : PathState) (o : OrderState) (k : Context) (tag : ℕ) → holder p tag ≡ None → slice_index_or (state_of p o k).data tag [] ≡ []
+pub vacant_data : (p : PathState) (o : OrderState) (k : Context) (tag : ℕ) → holder p tag ≡ None → slice_index_or (state_of p o k).data tag [] ≡ []
 vacant_data p o k tag none =
     elim (cases_lt tag 32) [
       | inl within ↦ data_so p o k tag within ∙ ap (data_by p tag) none
@@ -163,31 +163,31 @@ vacant_data p o k tag none =
           get_or_past (state_of p o k).data tag [] (omega (arith, long, past))
     ]
 
-faults_ready : (p : PathState) (o : OrderState) (k : Context) → (state_of p o k).faults.ready ≡ p.script.ready
+pub faults_ready : (p : PathState) (o : OrderState) (k : Context) → (state_of p o k).faults.ready ≡ p.script.ready
 unfolding state_of
 faults_ready p o k = refl
 
-faults_bus : (p : PathState) (o : OrderState) (k : Context) → (state_of p o k).faults.bus ≡ p.script.hits
+pub faults_bus : (p : PathState) (o : OrderState) (k : Context) → (state_of p o k).faults.bus ≡ p.script.hits
 unfolding state_of
 faults_bus p o k = refl
 
-order_is : (p : PathState) (o : OrderState) (k : Context) → order_of (state_of p o k) ≡ o
+pub order_is : (p : PathState) (o : OrderState) (k : Context) → order_of (state_of p o k) ≡ o
 unfolding state_of
 order_is p o k = refl
 
-waiting_is : (p : PathState) (o : OrderState) (k : Context) → (state_of p o k).waiting ≡ waiting_of p.driver
+pub waiting_is : (p : PathState) (o : OrderState) (k : Context) → (state_of p o k).waiting ≡ waiting_of p.driver
 unfolding state_of
 waiting_is p o k = refl
 
-words_are : (p : PathState) (o : OrderState) (k : Context) → (state_of p o k).words ≡ p.script.used
+pub words_are : (p : PathState) (o : OrderState) (k : Context) → (state_of p o k).words ≡ p.script.used
 unfolding state_of
 words_are p o k = refl
 
-names_are : (p : PathState) (o : OrderState) (k : Context) → (state_of p o k).named ≡ k.named
+pub names_are : (p : PathState) (o : OrderState) (k : Context) → (state_of p o k).named ≡ k.named
 unfolding state_of
 names_are p o k = refl
 
-staged_is : (p : PathState) (o : OrderState) (k : Context) → (state_of p o k).staged ≡ k.staged
+pub staged_is : (p : PathState) (o : OrderState) (k : Context) → (state_of p o k).staged ≡ k.staged
 unfolding state_of
 staged_is p o k = refl
 
@@ -196,13 +196,13 @@ pub record IsFresh (s : State) : Type 0 where
   pub lefts : s.lefts ≡ []
   pub epochs : s.epochs ≡ []
 
-fresh_is : (p : PathState) (o : OrderState) (k : Context) → IsFresh (state_of p o k)
+pub fresh_is : (p : PathState) (o : OrderState) (k : Context) → IsFresh (state_of p o k)
 unfolding state_of
 fresh_is p o k = record { deferred = refl; lefts = refl; epochs = refl }
 
 -- ---- the state in which power is lost
 
-dark_named : (p : PathState) (r : Registers) (g : Holding) (c : CardState) (s : Script) (named : List ℕ) → AreNamed p named
+pub dark_named : (p : PathState) (r : Registers) (g : Holding) (c : CardState) (s : Script) (named : List ℕ) → AreNamed p named
     → stop_of p ≡ stop.Running → stop_of (stopped_path p r g c s) ≡ stop.Bus None → AreNamed (stopped_path p r g c s) named
 dark_named p r g c s named h was now = record {
   long = h.long;
@@ -257,7 +257,7 @@ losing p a slot i w x y z g card s a' o k owed t st h cause lit =
     min_low : (n : ℕ) → n < 4 → min n 4 ≡ n
     min_low n low = omega arith
 
-started_at : (b last : State) (item : Item) → is_free b.owed ≡ true → is_untold b.event ≡ true → Begins (told b) item [] last
+pub started_at : (b last : State) (item : Item) → is_free b.owed ≡ true → is_untold b.event ≡ true → Begins (told b) item [] last
     → Starts b EngineActs (item ∷ []) last
 unfolding begun
 started_at b last item free untold h = record { free = free; untold = untold; goes = h }

@@ -149,11 +149,11 @@ named_so : (p : PathState) (o : OrderState) (k : Context) → (state_of p o k).n
 unfolding state_of
 named_so p o k = refl
 
-calm_so : (p : PathState) (o : OrderState) (k : Context) → p.driver.recovery ≡ driver.Calm → is_calm (state_of p o k).recovery ≡ true
+pub calm_so : (p : PathState) (o : OrderState) (k : Context) → p.driver.recovery ≡ driver.Calm → is_calm (state_of p o k).recovery ≡ true
 unfolding state_of
 calm_so p o k calm = ap (λ r. is_calm (recovery_of r)) calm
 
-next_is : (p : PathState) (o : OrderState) (k : Context) → p.script.sent ≡ k.n → raised p.script.sent ≡ next_number (state_of p o k)
+pub next_is : (p : PathState) (o : OrderState) (k : Context) → p.script.sent ≡ k.n → raised p.script.sent ≡ next_number (state_of p o k)
 unfolding state_of
 next_is p o k e = ap raised e
 

@@ -293,7 +293,7 @@ sent_keeps s command blocks = record { hits = refl; ready = refl; used = refl; s
 pub struck_sent : (s : Script) (command : Command) (blocks : ℕ) → KeepsScript s (struck (armed s command blocks))
 struck_sent s command blocks = record { hits = refl; ready = refl; used = refl; sent = λ _. raised_low s.sent }
 
-response_script : (hit : Option BusKind) (word : Result ℕ Dark) (s : Script) (command : Command) (blocks : ℕ)
+pub response_script : (hit : Option BusKind) (word : Result ℕ Dark) (s : Script) (command : Command) (blocks : ℕ)
     → KeepsScript s (after_response hit word (armed s command blocks))
 response_script None word s command blocks = sent_keeps s command blocks
 response_script (Some Lost) word s command blocks = sent_keeps s command blocks
@@ -331,12 +331,12 @@ rung_below (r ∷ ring) slot all apart =
     (λ e. subst (λ n. n < 32) (eqb-true r.slot slot e) (All-head (λ r. r.slot < 32) r ring all))
     (rung_below ring slot (All-tail (λ r. r.slot < 32) r ring all)) apart
 
-vacant_idle : (p : PathState) (tag : ℕ) (o : Option ℕ) → o ≡ None → MatchOption o (IsVacant p tag) (IsIssued p tag) → progress_of p.regs.ring tag ≡ Idle
+pub vacant_idle : (p : PathState) (tag : ℕ) (o : Option ℕ) → o ≡ None → MatchOption o (IsVacant p tag) (IsIssued p tag) → progress_of p.regs.ring tag ≡ Idle
 vacant_idle p tag None e h = h.idle
 vacant_idle p tag (Some id) e h = absurd (cc e)
 
 -- where a direct command is served, no slot is in its data phase: neither before it nor after it
-none_served : (p : PathState) (ring' : List Ringed) (id : ℕ) → AreTied p → p.driver.recovery ≡ driver.Calm → holder p 31 ≡ Some id
+pub none_served : (p : PathState) (ring' : List Ringed) (id : ℕ) → AreTied p → p.driver.recovery ≡ driver.Calm → holder p 31 ≡ Some id
     → progress_of p.regs.ring 31 ≡ Rung → ring' ≡ without p.regs.ring 31 → first_at Active ring' ≡ None
 none_served p ring' id t calm is rung e =
     first_none Active ring'
@@ -409,7 +409,7 @@ pub record DirectFacts (card : CardState) (desc : DirectDesc) : Type 0 where
   pub leaves : (array : ArrayState) (new : CardState) (new_array : ArrayState) (word : Result ℕ Dark) → Responds does card array new new_array word
       → DirectLeaves card new word
 
-pub direct_facts : (card : CardState) (j : Job) (int : Bool) (desc : DirectDesc) → card.csd.barrier ≡ true → DirectJob j int desc → DirectFacts card desc
+unfoldable pub direct_facts : (card : CardState) (j : Job) (int : Bool) (desc : DirectDesc) → card.csd.barrier ≡ true → DirectJob j int desc → DirectFacts card desc
 direct_facts card j int desc on (flushes is e) = record {
   command = Switch FLUSH_CACHE;
   does = response.FlushCache (with_direct card 1 true) (with_direct card 0 false);
@@ -438,7 +438,7 @@ direct_facts card j int desc on (asks is e) = record {
   leaves = status_leaves card;
 }
 
-direct_notice : (j : Job) (int : Bool) (desc : DirectDesc) → DirectJob j int desc → desc.int ≡ int
+pub direct_notice : (j : Job) (int : Bool) (desc : DirectDesc) → DirectJob j int desc → desc.int ≡ int
 direct_notice j int desc (flushes is e) = ap (λ d. d.int) e
 direct_notice j int desc (bars is e) = ap (λ d. d.int) e
 direct_notice j int desc (asks is e) = ap (λ d. d.int) e

@@ -35,3 +35,9 @@ mod FinishState
 mod FinishData
 mod FinishTells
 mod CloseEnds
+mod DirectLeft
+mod DirectStops
+mod DirectDarks
+mod DirectEnds
+mod DirectEvents
+mod DirectDone

@@ -47,7 +47,7 @@ use Rattle.phase_laws.proofs.Parts.{path_with}
 
 -- ---- the data of done reads
 
-map_alike : {X : Type 0} (f g : ℕ → X) (from n : ℕ) → ((k : ℕ) → from ≤ k → k < from + n → f k ≡ g k)
+pub map_alike : {X : Type 0} (f g : ℕ → X) (from n : ℕ) → ((k : ℕ) → from ≤ k → k < from + n → f k ≡ g k)
     → map f (range_with_len from n) ≡ map g (range_with_len from n)
 map_alike f g from zero alike = refl
 map_alike f g from (suc n) alike =

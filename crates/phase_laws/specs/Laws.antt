@@ -1,13 +1,12 @@
 -- What an event of a phase keeps, by what is due.
 use Rattle.std.specs.Prelude.{◌≡◌, ℕ, Bool, true, false, Option, Some}
 use Rattle.array_edge.specs.Array.{ArrayState}
-use Rattle.bus_link.specs.declared.link.Cause.TheVariants.{Bus as BusFault}
+use Rattle.bus_link.specs.declared.link.Cause.{Cause}
 use Rattle.card_core.specs.declared.phase.Phase.{Phase}
 use Rattle.cq_engine.specs.declared.did.Did.{Did}
 use Rattle.cq_engine.specs.declared.did.Did.TheVariants.{Stopped}
 use Rattle.cq_schedule.specs.declared.rules.Due.{Due}
 use Rattle.cq_schedule.specs.declared.rules.Due.TheVariants.{Block, Close, Serve}
-use Rattle.storage_model.specs.declared.faults.BusKind.TheVariants.{Lost}
 use Rattle.world_state.specs.Engine.{EngineEvent}
 use Rattle.world_state.specs.Path.{PathState}
 use Rattle.world_state.specs.Steps.{EngineStep, is_of_phase}
@@ -28,9 +27,9 @@ abbrev pub is_close : PathState → Due → Bool
 is_close p (Close slot) = true
 is_close p due = false
 
--- a direct command that was lost on the bus
-abbrev pub LostSteps : Type 0
-LostSteps =
+-- a direct command that stops the engine: it is lost on the bus, has no response or a fault of the flash, or power is lost in it
+abbrev pub DirectSteps : Type 0
+DirectSteps =
     (p : PathState) (a : ArrayState) (p' : PathState) (a' : ArrayState) (did : Did) (phase : Option Phase) (e : EngineEvent p a p' a' did phase) (slot : ℕ)
-    → e.event.acts.due ≡ Serve slot → is_of_phase p (Serve slot) ≡ true → did ≡ Stopped (BusFault Lost (Some slot)) → AreTied p
+    → e.event.acts.due ≡ Serve slot → is_of_phase p (Serve slot) ≡ true → (cause : Cause) → did ≡ Stopped cause → AreTied p
     → EngineStep p a p' a' did phase
