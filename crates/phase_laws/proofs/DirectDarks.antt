@@ -1,6 +1,6 @@
 -- The loss of power in a direct command: its phase's line, and the state that the cut comes to.
-use Rattle.std.proofs.Common.{◌≡◌, ◌<◌, ◌≤◌, ◌+◌, ◌++◌, ◌&&◌, ℕ, refl, sym, ◌∙◌, ap, subst, arith, append-nil}
-use Rattle.std.specs.Prelude.{Bool, true, false, cond, min, Option, Some, None, IfSome, is_none, length, List, [], ◌∷◌}
+use Rattle.std.proofs.Common.{◌≡◌, ◌<◌, ◌&&◌, ℕ, sym, ◌∙◌, ap, subst, arith, append-nil}
+use Rattle.std.specs.Prelude.{Bool, false, cond, min, Option, Some, None, is_none, length, [], ◌∷◌}
 use Rattle.std.specs.Option.{option_map}
 use Rattle.array_edge.specs.Array.{ArrayState}
 use Rattle.bus_link.specs.Hits.{raised}
@@ -16,7 +16,6 @@ use Rattle.storage_machine.specs.declared.state.Owed.{Owed}
 use Rattle.storage_machine.specs.declared.state.State.{State}
 use Rattle.storage_machine.specs.declared.state.Stop.TheVariants as stop
 use Rattle.storage_model.specs.declared.faults.BusKind.{BusKind}
-use Rattle.storage_model.specs.declared.marks.Mark.{Mark}
 use Rattle.storage_model.specs.declared.plan.Job.{Job}
 use Rattle.storage_model.specs.declared.plan.Plan.{Plan}
 use Rattle.storage_model.specs.declared.trace.Item.TheVariants.{Phase as PhaseLine}

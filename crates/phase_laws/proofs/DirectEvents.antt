@@ -1,20 +1,19 @@
--- What a served direct command tells that stops the engine.
-use Rattle.std.proofs.Common.{◌≡◌, ◌⊎◌, ◌≤◌, ◌==◌, ℕ, refl, sym, ◌∙◌, ap, subst, inl, inr}
-use Rattle.std.specs.Prelude.{Bool, true, false, not, cond, Option, Some, None, Result, Ok, Err, List, [], ◌∷◌, ◌++◌, unwrap_or}
+-- What a served direct command tells, however it ends.
+use Rattle.std.proofs.Common.{◌≡◌, ◌≢◌, ◌⊎◌, ◌<◌, ◌≤◌, ◌==◌, ◌||◌, ◌+◌, ℕ, arith, refl, sym, ◌∙◌, ap, subst, inl, inr}
+use Rattle.std.specs.Prelude.{Bool, true, false, not, cond, Option, Some, None, Result, Ok, Err, List, [], ◌∷◌, ◌++◌, unwrap_or, is_some, All}
 use Rattle.std.specs.Int.RustNames.{bit_and}
 use Rattle.std.specs.List.{find}
 use Rattle.std.specs.Option.{option_map_or}
-use Rattle.std.proofs.lemmas.Bool.{false≢true, or_right}
+use Rattle.std.proofs.lemmas.Bool.{cases_lt, eqb-true, false≢true, or_right}
+use Rattle.std.proofs.lemmas.List.Elements.{All-head, All-tail}
 use Rattle.array_edge.specs.Array.{ArrayState}
 use Rattle.bus_link.specs.Link.{is_poll, tells_flash}
 use Rattle.bus_link.specs.Hits.{raised}
-use Rattle.bus_link.specs.declared.link.Cause.{Cause}
 use Rattle.bus_link.specs.declared.link.Cause.TheVariants.{Bus as BusFault, Dark as NoPower, Response}
 use Rattle.bus_link.specs.declared.link.LinkEnd.{LinkEnd}
 use Rattle.bus_link.specs.declared.link.LinkEnd.TheVariants as link_end
 use Rattle.card_core.specs.Card.{blocks_of}
 use Rattle.card_core.specs.Serving.{without_error, word_of}
-use Rattle.card_core.specs.declared.ends.Dark.{Dark}
 use Rattle.card_core.specs.declared.phase.Phase.{Phase}
 use Rattle.card_link.specs.Behind.{Behind, behind}
 use Rattle.card_link.specs.Made.{CardMade, Exchanges, hit_on, is_lost, response_seen}
@@ -26,9 +25,12 @@ use Rattle.cq_engine.specs.Event.{Does, Exchanges as SendsCommand}
 use Rattle.cq_engine.specs.Outcome.{Outcome, outcome_of, stopped_with}
 use Rattle.cq_engine.specs.Words.{command_error, direct_of, is_masked}
 use Rattle.cq_engine.specs.declared.did.Did.{Did}
-use Rattle.cq_engine.specs.declared.did.Did.TheVariants.{Stopped}
+use Rattle.cq_engine.specs.declared.did.Did.TheVariants.{Direct as DirectDone, Stopped}
 use Rattle.cq_regs.specs.State.{Registers}
-use Rattle.cq_regs.specs.declared.slots.Progress.TheVariants.{Active}
+use Rattle.cq_regs.specs.Slots.{progress_of, without}
+use Rattle.cq_regs.specs.declared.slots.Progress.{Progress}
+use Rattle.cq_regs.specs.declared.slots.Progress.TheVariants.{Active, Idle}
+use Rattle.cq_regs.specs.declared.slots.Ringed.{Ringed}
 use Rattle.cq_schedule.specs.Held.{remembered}
 use Rattle.cq_schedule.specs.Meaning.{HasItsSlot, IsDue, list_of as engine_list, rests}
 use Rattle.cq_schedule.specs.Order.{first_at}
@@ -49,16 +51,22 @@ use Rattle.world_state.specs.Path.{PathState, behind_path, holder, is_busy, job,
 use Rattle.world_state.specs.Ties.{AreTied}
 use Rattle.phase_laws.proofs.BlockStops.{cause_is, left_store, not_on, phase_so}
 use Rattle.phase_laws.proofs.Blocks.{host_at, masks}
+use Rattle.phase_laws.proofs.Closes.{notice_is}
 use Rattle.phase_laws.proofs.Darks.{DarkensSo}
 use Rattle.phase_laws.proofs.DirectDarks.{failed_darkens}
+use Rattle.phase_laws.proofs.DirectDone.{lone_ring}
+use Rattle.phase_laws.proofs.DirectDones.{done_path, done_tells}
 use Rattle.phase_laws.proofs.DirectEnds.{DirectEnd, dark, direct_end, fails, plain_command, response_sent, two_kinds, well}
 use Rattle.phase_laws.proofs.DirectLeft.{DirectLeft}
 use Rattle.phase_laws.proofs.DirectStops.{DirectHalt, failed_tells, unanswered_tells}
-use Rattle.phase_laws.proofs.Directs.{DirectFacts, DirectMade, InService, ServesHere, dark_response, direct_base, direct_facts, direct_goes, direct_made, direct_stops, got, in_service, lost, response_script}
+use Rattle.phase_laws.proofs.Directs.{DirectFacts, DirectMade, InService, ServesHere, dark_response, direct_base, direct_facts, direct_goes, direct_made, direct_notice, direct_stops, got, in_service, lost, response_script, vacant_idle}
+use Rattle.phase_laws.proofs.Dones.{Begins, completion, not_busy}
 use Rattle.phase_laws.proofs.Dues.{runs_on, serve_calm, works}
+use Rattle.phase_laws.proofs.Endings.{tags_of}
 use Rattle.phase_laws.proofs.LostDirects.{direct_lost}
 use Rattle.phase_laws.proofs.Moves.{TellsSo}
 use Rattle.phase_laws.proofs.Parts.{KeepsScript, path_with}
+use Rattle.phase_laws.proofs.SetUps.{Completes, is_full}
 use Rattle.phase_laws.proofs.Stopping.{stop_regs, stop_regs_are, stopped_path}
 
 -- ---- the lines
@@ -94,18 +102,41 @@ dark_lines p p' did phase n id count kept is told held sent =
     ∙ ap (λ o. PhaseLine p'.script.sent (unwrap_or o 0) count kept ∷ []) held
     ∙ ap (λ v. PhaseLine v id count kept ∷ []) sent
 
+done_lines : (p p' : PathState) (did : Did) (phase : Option Phase) (slot n id count : ℕ) (kept : Bool) → did ≡ DirectDone slot
+    → phase ≡ phase_so 31 count kept → holder p 31 ≡ Some id → p'.script.sent ≡ n
+    → engine_lines p p' did phase ≡ PhaseLine n id count kept ∷ []
+done_lines p p' did phase slot n id count kept is told held sent =
+    ap (λ d. engine_lines p p' d phase) is
+    ∙ ap (λ ph. phase_line_of p p' ph) told
+    ∙ ap (λ o. PhaseLine p'.script.sent (unwrap_or o 0) count kept ∷ []) held
+    ∙ ap (λ v. PhaseLine v id count kept ∷ []) sent
+
+-- ---- the slots
+
+past_first : (b : Bool) (r : Ringed) (ring : List Ringed) (tag : ℕ) → (b ≡ true → ⊥) → progress_of ring tag ≡ Idle
+    → ◌≡◌ {A = Progress} (option_map_or (λ r. r.progress) (cond b (Some r) (find (λ r. r.slot == tag) ring)) Idle) Idle
+past_first true r ring tag apart rest = absurd (apart refl)
+past_first false r ring tag apart rest = rest
+
+past_idle : (ring : List Ringed) (tag : ℕ) → All (λ r. r.slot < 32) ring → 32 ≤ tag → progress_of ring tag ≡ Idle
+past_idle [] tag all past = refl
+past_idle (r ∷ ring) tag all past =
+    let low = All-head (λ r. r.slot < 32) r ring all in
+    past_first (r.slot == tag) r ring tag (λ e. let so = eqb-true r.slot tag e in absurd (omega (arith, low, past, so)))
+    (past_idle ring tag (All-tail (λ r. r.slot < 32) r ring all) past)
+
 -- ---- the event
 
-abbrev pub StopTold : (p : PathState) (a : ArrayState) (p' : PathState) (a' : ArrayState) (did : Did) (phase : Option Phase) → Type 0
-StopTold p a p' a' did phase =
+abbrev pub DirectTold : (p : PathState) (a : ArrayState) (p' : PathState) (a' : ArrayState) (did : Did) (phase : Option Phase) → Type 0
+DirectTold p a p' a' did phase =
     (is_dark did ≡ false → TellsSo EngineActs p a (engine_lines p p' did phase) p' a') × (is_dark did ≡ true → DarkensSo p a (engine_lines p p' did phase) p' a')
 
-pub direct_halts : (p : PathState) (a : ArrayState) (p' : PathState) (a' : ArrayState) (did : Did) (phase : Option Phase) (e : EngineEvent p a p' a' did phase)
+pub direct_told : (p : PathState) (a : ArrayState) (p' : PathState) (a' : ArrayState) (did : Did) (phase : Option Phase) (e : EngineEvent p a p' a' did phase)
     (slot : ℕ) → AreTied p → AreTied p' → StateLaws → IsDue (remembered p.engine.held p.regs) p.regs p.memory (Serve slot)
     → HasItsSlot (remembered p.engine.held p.regs) p.regs (Serve slot)
     → Does CardMade (behind_path p a) (behind e.card a' p'.script) (host_at p) p.memory p'.memory (outcome_of did e.event.left.held e.event.left.regs) (Serve slot)
-    → option_map_or (λ id. is_direct (job p id)) (holder p slot) false ≡ true → (cause : Cause) → did ≡ Stopped cause → StopTold p a p' a' did phase
-direct_halts p a p' a' did phase e slot t t' laws due has does direct cause stopped =
+    → option_map_or (λ id. is_direct (job p id)) (holder p slot) false ≡ true → DirectTold p a p' a' did phase
+direct_told p a p' a' did phase e slot t t' laws due has does direct =
     by_made (direct_made x.command x.does old new sends.answer x.responds x.poll crossed)
   where
     old : Behind
@@ -173,6 +204,20 @@ direct_halts p a p' a' did phase e slot t t' laws due has does direct cause stop
     phase_by : p'.regs.stopped ≡ true → (count : ℕ) (kept : Bool) → e.card.begun ≡ phase_so 31 count kept → phase ≡ phase_so 31 count kept
     phase_by is count kept begun = e.taken ∙ ap (phase_taken e.card) (not_on p' is) ∙ begun
 
+    -- the command is alone
+    alone : (tag : ℕ) → tag < 32 → tag ≢ slot → holder p tag ≡ None
+    alone tag within apart =
+        let last = i.last in
+        t.alone (ap is_some held_last) tag
+        (elim (cases_lt tag 31) [ inl low ↦ low | inr high ↦ absurd (apart (omega (arith, within, high, last))) ])
+
+    idle : (tag : ℕ) → tag ≢ slot → progress_of p.regs.ring tag ≡ Idle
+    idle tag apart =
+        elim (cases_lt tag 32) [
+          | inl within ↦ vacant_idle p tag (holder p tag) (alone tag within apart) (tags_of p t i.calm tag within)
+          | inr past ↦ past_idle p.regs.ring tag t.regs.ring.below past
+        ]
+
     halt_at : (y z u v count : ℕ) (kept : Bool) (kind : Option BusKind) → p'.regs ≡ stop_regs p y z u v
         → DirectLeft p a (job p i.id) count kept p'.card a' → KeepsScript p.script p'.script
         → p'.script.sent ≡ raised p.script.sent → hit_on old x.command ≡ kind → is_lost (hit_on old x.command) ≡ false → most_blocks kind 1 ≡ 1
@@ -195,7 +240,7 @@ direct_halts p a p' a' did phase e slot t t' laws due has does direct cause stop
       most = most;
     }
 
-    by_made : DirectMade x.command x.does old new sends.answer → StopTold p a p' a' did phase
+    by_made : DirectMade x.command x.does old new sends.answer → DirectTold p a p' a' did phase
     by_made (lost hit seen behind) =
         let is : out ≡ outcome_of (Stopped (BusFault Lost (Some slot))) (remembered p.engine.held p.regs) (stopped_with p.regs info) = subst O seen sends.outcome in (
           λ lit. direct_lost p a p' a' did phase e slot t t' laws due has does direct (ap (λ o. o.did) is),
@@ -212,7 +257,7 @@ direct_halts p a p' a' did phase e slot t t' laws due has does direct cause stop
         script_is = subst (KeepsScript p.script) (sym script) (response_script (hit_on old x.command) word p.script x.command (blocks_of p.card x.command))
 
         unanswered : (n count : ℕ) (kept : Bool) → word ≡ Ok n → hit_on old x.command ≡ Some NoResp → e.card.begun ≡ phase_so 31 count kept
-            → DirectLeft p a (job p i.id) count kept p'.card a' → StopTold p a p' a' did phase
+            → DirectLeft p a (job p i.id) count kept p'.card a' → DirectTold p a p' a' did phase
         unanswered n count kept is hit begun left =
             let answered : sends.answer ≡ Err (link_end.Bus NoResp) = seen ∙ ap (response_seen (hit_on old x.command)) is ∙ ap (λ h. response_seen h (Ok n)) hit in
             let out_is = subst O answered sends.outcome in
@@ -232,7 +277,7 @@ direct_halts p a p' a' did phase e slot t t' laws due has does direct cause stop
             )
 
         failed : word ≡ Ok (word_of ERROR) → hit_on old x.command ≡ None → e.card.begun ≡ phase_so 31 0 false
-            → DirectLeft p a (job p i.id) 0 false p'.card a' → ((through : Bool) → is_whole through (job p i.id) 0 false ≡ false) → StopTold p a p' a' did phase
+            → DirectLeft p a (job p i.id) 0 false p'.card a' → ((through : Bool) → is_whole through (job p i.id) 0 false ≡ false) → DirectTold p a p' a' did phase
         failed is hit begun left part =
             let n : ℕ = word_of ERROR in
             let answered : sends.answer ≡ Ok n = seen ∙ ap (response_seen (hit_on old x.command)) is ∙ ap (λ h. response_seen h (Ok n)) hit in
@@ -256,7 +301,7 @@ direct_halts p a p' a' did phase e slot t t' laws due has does direct cause stop
             )
 
         darkened : word ≡ Err (record {}) → (kind : Option BusKind) → hit_on old x.command ≡ kind → most_blocks kind 1 ≡ 1 → e.card.begun ≡ phase_so 31 0 false
-            → DirectLeft p a (job p i.id) 0 false p'.card a' → ((through : Bool) → is_whole through (job p i.id) 0 false ≡ false) → StopTold p a p' a' did phase
+            → DirectLeft p a (job p i.id) 0 false p'.card a' → ((through : Bool) → is_whole through (job p i.id) 0 false ≡ false) → DirectTold p a p' a' did phase
         darkened is kind hit most begun left part =
             let out_is = subst O (seen ∙ ap (response_seen (hit_on old x.command)) is ∙ dark_response (hit_on old x.command) (record {})) sends.outcome in
             let did_is : did ≡ Stopped NoPower = ap (λ o. o.did) out_is in
@@ -272,18 +317,67 @@ direct_halts p a p' a' did phase e slot t t' laws due has does direct cause stop
                   (cause_is p a p' a' did phase e NoPower did_is) part)),
             )
 
+        finished : (count : ℕ) (kept : Bool) → word ≡ Ok without_error → hit_on old x.command ≡ None → e.card.begun ≡ phase_so 31 count kept
+            → DirectLeft p a (job p i.id) count kept p'.card a' → ((through : Bool) → is_whole through (job p i.id) count kept ≡ true) → DirectTold p a p' a' did phase
+        finished count kept is hit begun left whole =
+            let answered : sends.answer ≡ Ok without_error =
+            seen ∙ ap (response_seen (hit_on old x.command)) is ∙ ap (λ h. response_seen h (Ok without_error)) hit in
+            let out_is = subst O answered sends.outcome ∙ direct_goes p slot without_error i.desc x.resp unmasked in
+            let did_is : did ≡ DirectDone slot = ap (λ o. o.did) out_is in
+            let int = asks_notice (plan_of p) (job p i.id) in
+            let base : Registers = direct_base p.regs i.desc without_error in
+            let begins : Begins p base = record { ring = refl; completed = refl; interrupts = refl; coalescing = refl; status_enable = refl; stopped = refl } in
+            let asked : i.desc.int ≡ int = direct_notice (job p i.id) int i.desc i.is_job in
+            let at_once : i.desc.int ≡ true = asked ∙ or_right ((plan_of p).coalesce == 0) (is_direct (job p i.id)) i.is_direct in
+            let both = completion p base slot i.desc.int t begins (notice_is (plan_of p) (job p i.id) i.desc.int asked) in
+            let c : Completes (plan_of p).coalesce slot i.desc.int base p'.regs =
+            subst (λ r. Completes (plan_of p).coalesce slot i.desc.int base r) (sym (e.event.registers ∙ ap (λ o. o.host.regs) out_is)) both in
+            let full : Bool = is_full (plan_of p).coalesce base.coalescing.counter in
+            let emptied : without p.regs.ring slot ≡ [] = lone_ring p.regs.ring slot t.regs.ring.started idle in
+            let none : p'.regs.ring ≡ [] = c.ring ∙ emptied in
+            let path : p' ≡ done_path p p'.regs p'.engine p'.card p'.script =
+            ap (λ d. record p' { driver = d }) e.driver ∙ ap (λ m. path_with p p'.regs m p'.engine p'.card p'.script) does.1 in
+            let told = e.taken ∙ ap (phase_taken e.card) (not_busy p' (ap (λ v. first_at Active v) none)) ∙ begun in
+            let shown = done_lines p p' did phase slot (raised p.script.sent) i.id count kept did_is told held_last sent_is in
+            let items : List Item = PhaseLine (raised p.script.sent) i.id count kept ∷ [] in (
+              λ lit.
+                  subst (λ v. TellsSo EngineActs p a v p' a') (sym shown)
+                  (subst (λ v. TellsSo EngineActs p a items v a') (sym path)
+                  (done_tells p a slot i p'.regs p'.engine p'.card p'.script a' count kept laws
+                  (record {
+                    tied = subst AreTied path t';
+                    left = left;
+                    script = script_is;
+                    sent = sent_is;
+                    going = (runs_on p.regs goes).1;
+                    below = has.0;
+                    way = way;
+                    is_due = due;
+                    command = x.command;
+                    blocks = blocks_of p.card x.command;
+                    plain = plain_command p.card (job p i.id) int i.desc on i.is_job;
+                    befell = hit;
+                    whole = whole;
+                    alone = alone;
+                    goes_on = c.stopped ∙ (runs_on p.regs goes).1;
+                    ring = none;
+                    emptied = emptied;
+                    completed = c.completed;
+                    interrupts = c.interrupts ∙ ap (λ b. cond (b || full) 2 base.interrupts) at_once;
+                    counter = c.counter ∙ ap (λ b. cond b base.coalescing.counter (cond full 0 (base.coalescing.counter + 1))) at_once;
+                  }))),
+              λ dark. absurd (false≢true (sym (ap is_dark did_is) ∙ dark)),
+            )
+
         kinds : (hit_on old x.command ≡ None) ⊎ (hit_on old x.command ≡ Some NoResp)
         kinds =
             two_kinds (find (λ h. h.n == raised p.script.sent) p.script.hits) x.command (blocks_of p.card x.command)
             (plain_command p.card (job p i.id) (asks_notice (plan_of p) (job p i.id)) i.desc on i.is_job) free
 
-        by_end : DirectEnd p a (job p i.id) e.card p'.card a' word → StopTold p a p' a' did phase
+        by_end : DirectEnd p a (job p i.id) e.card p'.card a' word → DirectTold p a p' a' did phase
         by_end (well count kept is begun left whole) =
             elim kinds [
-              | inl hit ↦
-                  let answered : sends.answer ≡ Ok without_error =
-                  seen ∙ ap (response_seen (hit_on old x.command)) is ∙ ap (λ h. response_seen h (Ok without_error)) hit in
-                  absurd (cc (sym stopped ∙ ap (λ o. o.did) (subst O answered sends.outcome ∙ direct_goes p slot without_error i.desc x.resp unmasked)))
+              | inl hit ↦ finished count kept is hit begun left whole
               | inr hit ↦ unanswered without_error count kept is hit begun left
             ]
         by_end (fails is begun left part) =

@@ -1,7 +1,7 @@
 -- What a direct command leaves of contents and marks.
-use Rattle.std.proofs.Common.{◌≡◌, ◌⊎◌, ◌<◌, ◌≤◌, ◌+◌, ◌++◌, ◌==◌, ◌&&◌, ◌||◌, ℕ, refl, sym, ◌∙◌, ap, subst, arith, inl, inr, append-nil}
-use Rattle.std.specs.Prelude.{Bool, true, false, not, cond, min, nat_lt, Option, Some, None, IfSome, is_some, length, List, [], ◌∷◌, All}
-use Rattle.std.proofs.lemmas.Bool.{and_cases, cases_lt, eq-eqb, eqb-true, false≢true, le-leb, le-ltb, lt-ltb, ne_eqb, not-false, or_parts}
+use Rattle.std.proofs.Common.{◌≡◌, ◌⊎◌, ◌<◌, ◌≤◌, ◌+◌, ◌++◌, ◌||◌, ℕ, refl, sym, ◌∙◌, ap, subst, arith, inl, inr, append-nil}
+use Rattle.std.specs.Prelude.{Bool, true, false, not, cond, min, nat_lt, None, IfSome, is_some, length, List, [], ◌∷◌, All}
+use Rattle.std.proofs.lemmas.Bool.{and_cases, cases_lt, eq-eqb, false≢true, le-leb, le-ltb, lt-ltb, ne_eqb, not-false, or_parts}
 use Rattle.std.proofs.lemmas.Bool.Decides.{eqb_tells}
 use Rattle.std.proofs.lemmas.List.Elements.{All-append, All-cons, All-nil}
 use Rattle.array_edge.specs.Array.{ArrayState}
@@ -22,7 +22,7 @@ use Rattle.storage_model.specs.declared.plan.Job.{Job}
 use Rattle.storage_model.specs.declared.plan.Job.TheVariants.{Read, Write, Flush, Barrier, Status}
 use Rattle.trace_effects.specs.Cuts.{places_of}
 use Rattle.trace_effects.specs.Phases.{bars_with, is_empty, marks_of}
-use Rattle.world_state.specs.Path.{PathState, is_busy, plan_of, under_way}
+use Rattle.world_state.specs.Path.{PathState, plan_of, under_way}
 use Rattle.world_state.specs.Reading.{Context, state_of}
 use Rattle.world_state.specs.Stands.{Agrees, contents_of, marks_moved_by}
 use Rattle.phase_laws.proofs.Few.{more_places, plain_pages}

@@ -1,6 +1,6 @@
 -- What a direct command tells that stops the engine though the card got it: without a response, or with a fault of the flash.
-use Rattle.std.proofs.Common.{◌≡◌, ◌<◌, ◌+◌, ◌++◌, ◌==◌, ◌&&◌, ℕ, refl, sym, ◌∙◌, ap, subst, append-nil}
-use Rattle.std.specs.Prelude.{Bool, true, false, cond, nat_le, Option, Some, None, IfSome, is_none, is_some, length, List, [], ◌∷◌}
+use Rattle.std.proofs.Common.{◌≡◌, ◌<◌, ◌++◌, ◌==◌, ◌&&◌, ℕ, refl, sym, ◌∙◌, ap, subst, append-nil}
+use Rattle.std.specs.Prelude.{Bool, true, false, cond, nat_le, Option, Some, None, is_some, length, List, [], ◌∷◌}
 use Rattle.std.specs.List.{find}
 use Rattle.std.specs.Option.{option_map}
 use Rattle.std.proofs.lemmas.Bool.{and_right, eq-eqb}
@@ -19,7 +19,6 @@ use Rattle.cut_order.specs.Order.{OrderState}
 use Rattle.drv_core.specs.Judge.{error_of}
 use Rattle.drv_core.specs.State.{is_recovering}
 use Rattle.drv_core.specs.declared.act.Stop.TheVariants.{Flash as FlashEnding}
-use Rattle.intent_store.specs.Intent.{shown_by}
 use Rattle.storage_machine.specs.Commands.{next_number, due, execute_blocks, hit, is_lost, is_running, meets, met, next_ready, first_high, execute_or_poll, queue_first}
 use Rattle.storage_machine.specs.Slots.{first}
 use Rattle.storage_machine.specs.Jobs.{may_move, phase_blocks}
@@ -36,7 +35,6 @@ use Rattle.storage_model.specs.declared.faults.Hit.{Hit}
 use Rattle.storage_model.specs.declared.faults.Letter.TheVariants.{Engine as EngineActs}
 use Rattle.storage_model.specs.declared.marks.Mark.{Mark}
 use Rattle.storage_model.specs.declared.plan.Job.{Job}
-use Rattle.storage_model.specs.declared.plan.Plan.{Plan}
 use Rattle.storage_model.specs.declared.trace.Item.TheVariants.{Bus as BusLine, Flash as FlashLine, Phase as PhaseLine}
 use Rattle.storage_order.specs.Events.{Happens}
 use Rattle.trace_effects.specs.Cuts.{places_of}
@@ -47,12 +45,12 @@ use Rattle.trace_rules.specs.Phases.{is_whole, most_blocks, owed_by, tag_due}
 use Rattle.world_state.specs.Laws.{StateLaws, command_due, next_fault, served_by}
 use Rattle.world_state.specs.Path.{PathState, holder, is_busy, job, plan_of, under_way}
 use Rattle.world_state.specs.Reading.{Context, state_of, stop_by, stop_by_word, stop_of}
-use Rattle.world_state.specs.Stands.{Agrees, AreNamed, contents_of, sent_of}
+use Rattle.world_state.specs.Stands.{Agrees, AreNamed, sent_of}
 use Rattle.world_state.specs.Ties.{AreTied}
 use Rattle.phase_laws.proofs.DirectLeft.{DirectLeft, contents_with, direct_blocks, direct_inside}
 use Rattle.phase_laws.proofs.DirectLost.{calm_so, next_is}
 use Rattle.phase_laws.proofs.Directs.{InService}
-use Rattle.phase_laws.proofs.Moves.{TellsSo, free_is, id_is, plan_is, untold_is}
+use Rattle.phase_laws.proofs.Moves.{TellsSo, free_is, id_is, untold_is}
 use Rattle.phase_laws.proofs.Parts.{KeepsScript}
 use Rattle.phase_laws.proofs.Phased.{Moves, base_after, broken, broken_effect, direct_holds, pend_after, phase_bus, phase_flash, stopped_by}
 use Rattle.phase_laws.proofs.StopTells.{bars_are, named_is}
@@ -136,36 +134,44 @@ pub record DirectLine (p : PathState) (o : OrderState) (k : Context) (slot id : 
   pub number : raised p.script.sent ≡ next_number (state_of p o k)
   pub idle : (state_of p o k).busy ≡ false
 
-pub direct_line : (p : PathState) (a : ArrayState) (slot : ℕ) (i : InService p slot) (w x y z : ℕ) (g : Holding) (card : CardState) (s : Script) (a' : ArrayState)
-    (count : ℕ) (kept : Bool) (kind : Option BusKind) (o : OrderState) (k : Context) → StateLaws
-    → DirectHalt p a slot i w x y z g card s a' count kept kind → Agrees p a k → DirectLine p o k slot i.id count kept kind
-direct_line p a slot i w x y z g card s a' count kept kind o k laws st h =
+pub line_of : (p : PathState) (a : ArrayState) (slot : ℕ) (i : InService p slot) (card : CardState) (a' : ArrayState) (count : ℕ) (kept : Bool)
+    (kind : Option BusKind) (o : OrderState) (k : Context) (command : Command) (blocks : ℕ) → StateLaws → DirectLeft p a (job p i.id) count kept card a'
+    → slot < 32 → under_way p ≡ None → IsDue (remembered p.engine.held p.regs) p.regs p.memory (Serve slot) → is_execute command ≡ false
+    → if_of_kind (find (λ h. h.n == raised p.script.sent) p.script.hits) command blocks ≡ kind → most_blocks kind 1 ≡ 1 → Agrees p a k
+    → DirectLine p o k slot i.id count kept kind
+line_of p a slot i card a' count kept kind o k command blocks laws left below way is_due plain befell most h =
     let b : State = state_of p o k in
     let l = laws.engine p o k h.tied h.number in
-    let idle : is_busy p ≡ false = ap is_some st.way in
+    let idle : is_busy p ≡ false = ap is_some way in
     let direct : command_due p (Serve slot) ≡ machine.Direct slot =
     ap (served_by p slot) i.is_held ∙ ap (λ v. cond v (machine.Direct slot) (machine.Params slot)) i.is_direct in
-    let due_is : due b ≡ machine.Direct slot = l.command (Serve slot) st.is_due ∙ direct in
+    let due_is : due b ≡ machine.Direct slot = l.command (Serve slot) is_due ∙ direct in
     let hit_is : hit b ≡ kind =
     l.fault idle ∙ ap (λ d. met (execute_blocks b d) (next_fault p)) due_is
-    ∙ direct_met (find (λ f. f.n == raised p.script.sent) p.script.hits) st.command st.blocks st.plain ∙ st.befell in
+    ∙ direct_met (find (λ f. f.n == raised p.script.sent) p.script.hits) command blocks plain ∙ befell in
     let few : may_move (job p i.id) (most_blocks kind (phase_blocks (job p i.id))) count ≡ true =
     ap (λ n. may_move (job p i.id) (most_blocks kind n) count) (direct_blocks (job p i.id) i.is_direct)
-    ∙ ap (λ n. may_move (job p i.id) n count) st.most ∙ st.left.few in
+    ∙ ap (λ n. may_move (job p i.id) n count) most ∙ left.few in
     record {
       is_due = due_is;
       befalls = hit_is;
       moves = record {
         job_is = jobs_are p o k i.id;
-        is_id = ap (λ v. v == i.id) (id_is p o k slot i.id st.below i.is_held) ∙ eq-eqb i.id i.id refl;
+        is_id = ap (λ v. v == i.id) (id_is p o k slot i.id below i.is_held) ∙ eq-eqb i.id i.id refl;
         hit_is = hit_is;
         few = few;
-        keeps = st.left.keeps b.plan.through;
+        keeps = left.keeps b.plan.through;
         inside = direct_inside (job p i.id) (length b.base) i.is_direct;
       };
       number = next_is p o k (h.number ∙ ap (λ v. sent_of v k.n) idle);
       idle = busy_is p o k ∙ idle;
     }
+
+pub direct_line : (p : PathState) (a : ArrayState) (slot : ℕ) (i : InService p slot) (w x y z : ℕ) (g : Holding) (card : CardState) (s : Script) (a' : ArrayState)
+    (count : ℕ) (kept : Bool) (kind : Option BusKind) (o : OrderState) (k : Context) → StateLaws
+    → DirectHalt p a slot i w x y z g card s a' count kept kind → Agrees p a k → DirectLine p o k slot i.id count kept kind
+direct_line p a slot i w x y z g card s a' count kept kind o k laws st h =
+    line_of p a slot i card a' count kept kind o k st.command st.blocks laws st.left st.below st.way st.is_due st.plain st.befell st.most h
 
 pub running_so : (p : PathState) (slot : ℕ) (i : InService p slot) → p.regs.stopped ≡ false → stop_of p ≡ stop.Running
 running_so p slot i going =

@@ -41,3 +41,4 @@ mod DirectDarks
 mod DirectEnds
 mod DirectEvents
 mod DirectDone
+mod DirectDones

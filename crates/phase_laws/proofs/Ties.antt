@@ -19,7 +19,7 @@ use Rattle.storage_model.specs.declared.faults.Letter.TheVariants.{Engine as Eng
 use Rattle.world_state.specs.Engine.{EngineEvent, engine_lines, is_dark}
 use Rattle.world_state.specs.Laws.{StateLaws}
 use Rattle.world_state.specs.Path.{PathState, behind_path}
-use Rattle.world_state.specs.Steps.{EngineSteps, is_of_phase}
+use Rattle.world_state.specs.Steps.{EngineStep, EngineSteps, PhaseSteps, is_of_phase}
 use Rattle.world_state.specs.Ties.{AreTied}
 use Rattle.phase_laws.specs.Laws.{DirectSteps, KeepsTies, is_block, is_close}
 use Rattle.phase_laws.proofs.BlockAll.{block_tells}
@@ -31,7 +31,7 @@ use Rattle.phase_laws.proofs.CloseEnds.{close_ends}
 use Rattle.phase_laws.proofs.CloseStops.{close_stops}
 use Rattle.phase_laws.proofs.Closes.{close_ties}
 use Rattle.phase_laws.proofs.Directs.{direct_ties}
-use Rattle.phase_laws.proofs.DirectEvents.{StopTold, direct_halts}
+use Rattle.phase_laws.proofs.DirectEvents.{DirectTold, direct_told}
 
 ties_by : (p : PathState) (a : ArrayState) (p' : PathState) (a' : ArrayState) (did : Did) (phase : Option Phase) (e : EngineEvent p a p' a' did phase) (due : Due)
     → is_of_phase p due ≡ true → AreTied p → IsDue (remembered p.engine.held p.regs) p.regs p.memory due
@@ -150,16 +150,31 @@ close_steps p a p' a' did phase e test t =
           (close_by p a p' a' did phase e e.event.acts.due test t t' laws e.event.acts.is_due e.event.acts.slot e.event.acts.does (halts_or did)).1 dark;
     }
 
--- a direct command that stops the engine
+-- a direct command, in full
 pub direct_steps : DirectSteps
-direct_steps p a p' a' did phase e slot due direct cause is t =
+direct_steps p a p' a' did phase e slot due direct t =
     let out = outcome_of did e.event.left.held e.event.left.regs in
     let t' = phases_keep p a p' a' did phase e (ap (is_of_phase p) due ∙ direct) t in
     let I : Due → Type 0 = λ d. IsDue (remembered p.engine.held p.regs) p.regs p.memory d in
     let H : Due → Type 0 = λ d. HasItsSlot (remembered p.engine.held p.regs) p.regs d in
     let D : Due → Type 0 = λ d. Does CardMade (behind_path p a) (behind e.card a' p'.script) (host_at p) p.memory p'.memory out d in
-    let both : (laws : StateLaws) → StopTold p a p' a' did phase =
+    let both : (laws : StateLaws) → DirectTold p a p' a' did phase =
     λ laws.
-    direct_halts p a p' a' did phase e slot t t' laws (subst I due e.event.acts.is_due) (subst H due e.event.acts.slot) (subst D due e.event.acts.does)
-    direct cause is in
+    direct_told p a p' a' did phase e slot t t' laws (subst I due e.event.acts.is_due) (subst H due e.event.acts.slot) (subst D due e.event.acts.does)
+    direct in
     record { ties = λ _. t'; tells = λ laws lit. (both laws).0 lit; darkens = λ laws dark. (both laws).1 dark }
+
+steps_by : (p : PathState) (a : ArrayState) (p' : PathState) (a' : ArrayState) (did : Did) (phase : Option Phase) (e : EngineEvent p a p' a' did phase) (due : Due)
+    → e.event.acts.due ≡ due → is_of_phase p due ≡ true → AreTied p → EngineStep p a p' a' did phase
+steps_by p a p' a' did phase e (NextBlock slot k) is test t = block_steps p a p' a' did phase e (ap (is_block p) is) t
+steps_by p a p' a' did phase e (Close slot) is test t = close_steps p a p' a' did phase e (ap (is_close p) is) t
+steps_by p a p' a' did phase e (Serve slot) is test t = direct_steps p a p' a' did phase e slot is test t
+steps_by p a p' a' did phase e Rest is test t = absurd (false≢true test)
+steps_by p a p' a' did phase e (Address slot) is test t = absurd (false≢true test)
+steps_by p a p' a' did phase e (Execute slot) is test t = absurd (false≢true test)
+steps_by p a p' a' did phase e Poll is test t = absurd (false≢true test)
+steps_by p a p' a' did phase e Tick is test t = absurd (false≢true test)
+
+-- whichever of them is due
+pub phase_steps : PhaseSteps
+phase_steps p a p' a' did phase e test t = steps_by p a p' a' did phase e e.event.acts.due refl test t

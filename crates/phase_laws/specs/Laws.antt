@@ -1,5 +1,5 @@
 -- What an event of a phase keeps, by what is due.
-use Rattle.std.specs.Prelude.{◌≡◌, ℕ, Bool, true, false, Option, Some}
+use Rattle.std.specs.Prelude.{◌≡◌, ℕ, Bool, true, false, Option}
 use Rattle.array_edge.specs.Array.{ArrayState}
 use Rattle.bus_link.specs.declared.link.Cause.{Cause}
 use Rattle.card_core.specs.declared.phase.Phase.{Phase}
@@ -27,9 +27,9 @@ abbrev pub is_close : PathState → Due → Bool
 is_close p (Close slot) = true
 is_close p due = false
 
--- a direct command that stops the engine: it is lost on the bus, has no response or a fault of the flash, or power is lost in it
+-- a direct command, however it ends
 abbrev pub DirectSteps : Type 0
 DirectSteps =
     (p : PathState) (a : ArrayState) (p' : PathState) (a' : ArrayState) (did : Did) (phase : Option Phase) (e : EngineEvent p a p' a' did phase) (slot : ℕ)
-    → e.event.acts.due ≡ Serve slot → is_of_phase p (Serve slot) ≡ true → (cause : Cause) → did ≡ Stopped cause → AreTied p
+    → e.event.acts.due ≡ Serve slot → is_of_phase p (Serve slot) ≡ true → AreTied p
     → EngineStep p a p' a' did phase
