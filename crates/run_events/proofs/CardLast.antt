@@ -20,10 +20,11 @@ use Rattle.storage_model.specs.declared.trace.Item.TheVariants.{Phase, Cut}
 use Rattle.storage_order.proofs.Accepts.{holds_unbroken}
 use Rattle.storage_order.specs.Accept.{accept_from}
 use Rattle.storage_order.specs.Events.{Fits, Lasts, More, goes_on, end_rule, ended, ended_by, rule_of_end, is_untold}
-use Rattle.storage_order.specs.Order.{forced, is_of_next, letters_left, starts, starts_at}
+use Rattle.storage_order.specs.Order.{forced, is_of_next, starts, starts_at}
 use Rattle.storage_runs.proofs.Ends.{First, after_by, more_plan}
 use Rattle.storage_runs.proofs.Lines.{event_none, one_taken}
 use Rattle.storage_runs.proofs.Mores.{calm_steps, cut_is, is_untold_event, more_taken, not_true, start_none}
+use Rattle.run_lines.proofs.Cuts.{plain_untold, plainly_cut, told_cut}
 use Rattle.run_lines.proofs.Engines.{engine_next, enters_first}
 use Rattle.storage_runs.proofs.Lags.{calm_work}
 use Rattle.run_lines.proofs.Phases.{amid, cut_by_event, moved_amid, moved_on, phase_forced, phase_line, uncut_yields}
@@ -32,7 +33,7 @@ use Rattle.storage_runs.proofs.Told.{IsBegun, due_event, phase_uncut, untold_tol
 use Rattle.storage_runs.specs.Laws.{Closes, rested}
 use Rattle.storage_runs.specs.Runs.{StaysSo, Yields}
 use Rattle.trace_effects.proofs.Sounds.{effect_keeps}
-use Rattle.trace_effects.specs.Effects.{after_cut, cut_at, effect, first_cut}
+use Rattle.trace_effects.specs.Effects.{after_cut, cut_at, effect, first_cut, letters_left}
 use Rattle.trace_effects.specs.Phases.{after_blocks, after_done, after_keep, after_phase, closed_by, done_with, event_with, phase_by, read_sectors}
 use Rattle.trace_rules.specs.Lines.{cut_holds, holds, is_free, line_rule}
 use Rattle.trace_rules.specs.Phases.{is_phase_of, is_whole, owed_by, phase_holds, tag_due}
@@ -118,14 +119,20 @@ out_line : (p : State) → line_rule (unsaid p) Cut ≡ line_rule p Cut
 unfolding line_rule holds cut_holds
 out_line p = refl
 
-out_cut_by : (p : State) (owed : Owed) → p.event ≡ Told Card → cut_at (unsaid p) owed ≡ cut_at p owed
+pub plain_unsaid : (p : State) → plainly_cut (unsaid p) ≡ plainly_cut p
 unfolding to_do
-out_cut_by p (Dark cuts) e = refl
-out_cut_by p owed e = ap (λ event. first_cut (record p { event = event })) (sym e)
+plain_unsaid p = refl
 
-out_cut : (p : State) → p.event ≡ Told Card → effect (unsaid p) Cut ≡ effect p Cut
+out_first : (p : State) → p.event ≡ Told Card → is_calm p.recovery ≡ true → first_cut (unsaid p) ≡ first_cut p
+out_first p e calm = plain_untold (unsaid p) refl ∙ (plain_unsaid p ∙ sym (told_cut p Card e calm))
+
+out_cut_by : (p : State) (owed : Owed) → p.event ≡ Told Card → is_calm p.recovery ≡ true → cut_at (unsaid p) owed ≡ cut_at p owed
+out_cut_by p (Dark cuts) e calm = refl
+out_cut_by p owed e calm = out_first p e calm
+
+out_cut : (p : State) → p.event ≡ Told Card → is_calm p.recovery ≡ true → effect (unsaid p) Cut ≡ effect p Cut
 unfolding effect after_cut
-out_cut p e = out_cut_by p p.owed e
+out_cut p e calm = out_cut_by p p.owed e calm
 
 own_cut : (p : State) (owed : Owed) → is_calm p.recovery ≡ true → is_due p ≡ false → goes_on p owed Cut ≡ true → goes_on (unsaid p) owed Cut ≡ true
 own_cut p Closed calm late on = and_from (is_calm p.recovery) (not (is_due (unsaid p))) calm (ap not (due_event p Untold ∙ late))
@@ -137,7 +144,7 @@ stands_cut p item owed at e on stands = sym (ap (λ o. cond (is_nothing o) (is_l
 
 cut_more : (p last : State) (items : List Item) → p.event ≡ Told Card → is_calm p.recovery ≡ true → is_due p ≡ false → More p (Cut ∷ items) last → More (unsaid p) (Cut ∷ items) last
 cut_more p last items e calm late go =
-    (own_cut p p.owed calm late go.0, record { line = out_line p ∙ go.1.line; stands = refl; first = refl }, rw (out_cut p e) go.2)
+    (own_cut p p.owed calm late go.0, record { line = out_line p ∙ go.1.line; stands = refl; first = refl }, rw (out_cut p e calm) go.2)
 
 pub more_cut : (p last : State) (item : Item) (items : List Item) → item ≡ Cut → p.event ≡ Told Card → is_calm p.recovery ≡ true → is_due p ≡ false → More p (item ∷ items) last → More (unsaid p) (item ∷ items) last
 more_cut p last item items at e calm late go = rw at (cut_more p last items e calm late (rw at at go))
@@ -149,15 +156,15 @@ more_out p last (item ∷ items) e calm late go over =
     let cut = cut_is item (stands_cut p item p.owed refl e go.0 go.1.stands) in
     more_cut p last item items cut e calm late go
 
-pub cut_so : (p : State) (items : List Item) → p.event ≡ Told Card → StaysSo p (Cut ∷ items) → StaysSo (unsaid p) (Cut ∷ items)
-cut_so p items e so = (refl, rw (out_cut p e) so.1)
+pub cut_so : (p : State) (items : List Item) → p.event ≡ Told Card → is_calm p.recovery ≡ true → StaysSo p (Cut ∷ items) → StaysSo (unsaid p) (Cut ∷ items)
+cut_so p items e calm so = (refl, rw (out_cut p e calm) so.1)
 
-pub so_cut : (p : State) (item : Item) (items : List Item) → item ≡ Cut → p.event ≡ Told Card → StaysSo p (item ∷ items) → StaysSo (unsaid p) (item ∷ items)
-so_cut p item items at e so = rw at (cut_so p items e (rw at at so))
+pub so_cut : (p : State) (item : Item) (items : List Item) → item ≡ Cut → p.event ≡ Told Card → is_calm p.recovery ≡ true → StaysSo p (item ∷ items) → StaysSo (unsaid p) (item ∷ items)
+so_cut p item items at e calm so = rw at (cut_so p items e calm (rw at at so))
 
-so_out : (p last : State) (items : List Item) → p.event ≡ Told Card → More p items last → StaysSo p items → StaysSo (unsaid p) items
-so_out p last [] e go so = tt
-so_out p last (item ∷ items) e go so = so_cut p item items (cut_is item (stands_cut p item p.owed refl e go.0 go.1.stands)) e so
+so_out : (p last : State) (items : List Item) → p.event ≡ Told Card → is_calm p.recovery ≡ true → More p items last → StaysSo p items → StaysSo (unsaid p) items
+so_out p last [] e calm go so = tt
+so_out p last (item ∷ items) e calm go so = so_cut p item items (cut_is item (stands_cut p item p.owed refl e go.0 go.1.stands)) e calm so
 
 -- what is known where the card's event is the last letter's, and a phase is under way
 pub record IsLast (b : State) (n id count : ℕ) (kept : Bool) : Type 0 where
@@ -244,7 +251,7 @@ card_lasts b t n id count kept items x lasts so depth =
         taken = λ more.
             one_taken b first.at item first.settled first.order first.line first.event (items ++ more)
             ∙ (ap (accept_from (items ++ more)) (first.effect ∙ effect_out b n id count kept x.event)
-            ∙ more_taken (unsaid p) lasts.last items (more_out p lasts.last items e calm late go lasts.event) (so_out p lasts.last items e go so.1) more);
+            ∙ more_taken (unsaid p) lasts.last items (more_out p lasts.last items e calm late go lasts.event) (so_out p lasts.last items e calm go so.1) more);
       };
       event = over;
     }

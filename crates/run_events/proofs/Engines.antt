@@ -16,8 +16,8 @@ use Rattle.storage_order.proofs.Accepts.{holds_unbroken}
 use Rattle.storage_order.specs.Events.{end_rule, ended, ended_by, engine_may_pass, engine_step, may_pass, passed, rule_of_end}
 use Rattle.storage_order.specs.Order.{starts}
 use Rattle.run_events.proofs.Idles.{late_onward}
-use Rattle.run_events.proofs.Still.{IsItsLine, Still, plain_onward, plain_unsaid, still_depth, still_onward, told_cut_first}
-use Rattle.run_events.proofs.CardLast.{unsaid}
+use Rattle.run_events.proofs.Still.{IsItsLine, Still, plain_onward, still_depth, still_onward, told_cut_first}
+use Rattle.run_events.proofs.CardLast.{plain_unsaid, unsaid}
 use Rattle.run_lines.proofs.Cuts.{plain_tick, plainly_cut}
 use Rattle.storage_runs.proofs.Ends.{First}
 use Rattle.run_lines.proofs.Engines.{hit_busy, hit_execute, is_command, not_due, not_executed}
@@ -78,15 +78,15 @@ pass_cases m r (Execute tag) at late may state = inr (record {
   state = state ∙ ap (λ b. cond b (record (unsaid m) { busy = true; spent = m.spent + 1 }) (unsaid m)) may;
 })
 
-may_told : (m : State) → m.event ≡ Told Engine → end_rule m ≡ None → engine_may_pass m ≡ true
+pub may_told : (m : State) → m.event ≡ Told Engine → end_rule m ≡ None → engine_may_pass m ≡ true
 unfolding end_rule
 may_told m e end = pass_where (engine_may_pass m) (sym (ap (rule_of_end m) e) ∙ end)
 
-engine_rest : (m s : State) → Still m s Engine → rested m ≡ engine_step (unsaid m)
+pub rested_engine : (m : State) → m.event ≡ Told Engine → m.owed ≡ Nothing → rested m ≡ engine_step (unsaid m)
 unfolding ended
-engine_rest m s x =
-    ap {A = State} (λ y. record y { owed = Nothing }) (ap (ended_by m) x.event)
-    ∙ ap (λ owed. record (engine_step (unsaid m)) { owed = owed }) (sym ((engine_kept (unsaid m)).owed ∙ x.owed))
+rested_engine m e owed =
+    ap {A = State} (λ y. record y { owed = Nothing }) (ap (ended_by m) e)
+    ∙ ap (λ owed. record (engine_step (unsaid m)) { owed = owed }) (sym ((engine_kept (unsaid m)).owed ∙ owed))
 
 passed_by : (m r : State) → r ≡ engine_step (unsaid m) → engine_may_pass (unsaid m) ≡ true → is_due (unsaid m) ≡ false → Passed m r
 unfolding engine_step engine_may_pass
@@ -94,7 +94,7 @@ passed_by m r state may late = pass_cases m r (due (unsaid m)) refl late may sta
 
 -- what the told event did
 pub engine_passed : (m s : State) → Still m s Engine → Passed m (rested m)
-engine_passed m s x = passed_by m (rested m) (engine_rest m s x) (pass_event m Untold ∙ may_told m x.event x.end) (late_event m Untold ∙ x.late)
+engine_passed m s x = passed_by m (rested m) (rested_engine m x.event x.owed) (pass_event m Untold ∙ may_told m x.event x.end) (late_event m Untold ∙ x.late)
 
 -- where the engine had nothing to send, it has nothing now
 idle_onward : (m r s : State) → Idled m r → Onward r s → due s ≡ Idle
@@ -133,7 +133,7 @@ engine_stands m item e stands = ap (λ event. stands_in m event item) e ∙ stan
 -- its cut
 pub engine_cut : (m s : State) → Still m s Engine → Passed m (rested m) → has_work s ≡ false → (s.busy ≡ true → false ≡ true) → starts m Cut ≡ false → First m (record s { event = Told Engine }) Cut
 engine_cut m s x (inl idle) work free inside =
-    told_cut_first m s Engine x inside (engine_stands m Cut x.event (or_true (not (is_nothing m.owed)))) (sym idle.same ∙ plain_onward (rested m) s (still_onward m s Engine x work) free)
+    told_cut_first m s Engine x work inside (engine_stands m Cut x.event (or_true (not (is_nothing m.owed)))) (sym idle.same ∙ plain_onward (rested m) s (still_onward m s Engine x work) free)
 engine_cut m s x (inr ran) work free inside =
     absurd (false≢true (free (ap (λ y. y.busy) (run_onward m (rested m) s ran (still_onward m s Engine x work)).state)))
 

@@ -16,7 +16,8 @@ use Rattle.storage_model.specs.declared.trace.End.{End}
 use Rattle.storage_model.specs.declared.trace.Item.TheVariants.{Off}
 use Rattle.storage_order.specs.Accept.{accept_from}
 use Rattle.storage_order.specs.Events.{ended, engine_step}
-use Rattle.storage_order.specs.Order.{engine_first, forced, is_of_next, letters_left, starts, untold_steps, with_due}
+use Rattle.trace_effects.specs.Effects.{letters_left}
+use Rattle.storage_order.specs.Order.{engine_first, forced, is_of_next, starts, untold_steps, with_due}
 use Rattle.storage_runs.proofs.Ends.{First}
 use Rattle.run_lines.proofs.Engines.{enters_first}
 use Rattle.run_lines.proofs.Hosts.{no_letters}
@@ -45,7 +46,7 @@ calm_not : (calm : Bool) → not calm ≡ false → calm ≡ true
 calm_not true e = refl
 calm_not false e = absurd (cc)
 
-calm_idle : (s : State) → to_do s ≡ false → is_calm s.recovery ≡ true
+pub calm_idle : (s : State) → to_do s ≡ false → is_calm s.recovery ≡ true
 unfolding to_do
 calm_idle s none = calm_not (is_calm s.recovery) (or_parts (has Issued s.slots) (not (is_calm s.recovery)) (or_parts (list_any (λ waits. waits) s.waiting) (has Issued s.slots || not (is_calm s.recovery)) none).1).1
 

@@ -75,7 +75,7 @@ rested_stands m s st = record {
   unseen = unseen_at st.count (rested m) (rested (rested m)) s (rested_rested m) st.unseen;
 }
 
-owed_nothing : (nothing untold : Bool) → (nothing || untold) ≡ true → untold ≡ false → nothing ≡ true
+pub owed_nothing : (nothing untold : Bool) → (nothing || untold) ≡ true → untold ≡ false → nothing ≡ true
 owed_nothing true untold a b = refl
 owed_nothing false untold a b = absurd (false≢true (sym b ∙ a))
 
@@ -83,7 +83,7 @@ some_before : (k : ℕ) (r s : State) → Unseen k r s → to_do s ≡ true → 
 some_before zero r s un some = sym (ap to_do un) ∙ some
 some_before (suc k) r s un some = un.1.some
 
-nothing_is : (owed : Owed) → is_nothing owed ≡ true → owed ≡ Nothing
+pub nothing_is : (owed : Owed) → is_nothing owed ≡ true → owed ≡ Nothing
 nothing_is Nothing e = refl
 nothing_is owed e = absurd (cc)
 
@@ -206,7 +206,7 @@ told_first m s letter item false first st e some unshown sets =
     let x = still m s letter st e some in
     inside_first m s letter item (is_due s) (next_letter s) (chosen s) refl refl refl unshown (record { stands = st; still = x; inside = first; its = its_line m s letter item x first }) sets
 
-due_told : (m : State) → end_rule m ≡ None → m.event ≡ Due → false ≡ true
+pub due_told : (m : State) → end_rule m ≡ None → m.event ≡ Due → false ≡ true
 unfolding end_rule
 due_told m end e = absurd (cc (rw e at end))
 

@@ -13,7 +13,7 @@ use Rattle.storage_model.specs.declared.trace.Item.TheVariants.{Phase}
 use Rattle.storage_order.proofs.Accepts.{holds_unbroken}
 use Rattle.storage_order.specs.Accept.{accept_from}
 use Rattle.storage_order.specs.Events.{Begins, Goes, More}
-use Rattle.storage_order.specs.Order.{is_of_next, letters_left}
+use Rattle.storage_order.specs.Order.{is_of_next}
 use Rattle.run_events.proofs.CardLast.{IsLast, behind, busy_of, card_first, effect_out, late_behind, late_of, more_cut, number_of, so_cut, stands_cut, unsaid}
 use Rattle.storage_runs.proofs.Ends.{First}
 use Rattle.storage_runs.proofs.Hushes.{rests, unseen_letter}
@@ -25,7 +25,7 @@ use Rattle.storage_runs.proofs.Told.{IsBegun, phase_uncut, shown_letter, told_fi
 use Rattle.storage_runs.proofs.Turns.{turn_taken}
 use Rattle.storage_runs.specs.Laws.{IsOpened, StandsAt, rested}
 use Rattle.storage_runs.specs.Runs.{StaysSo, Yields, begun_next, is_shown, shown}
-use Rattle.trace_effects.specs.Effects.{effect}
+use Rattle.trace_effects.specs.Effects.{effect, letters_left}
 use Rattle.trace_effects.specs.Phases.{event_with}
 use Rattle.trace_rules.specs.Steps.{earlier}
 
@@ -42,7 +42,7 @@ card_rest : (p last : State) (items : List Item) → p.event ≡ Told Card → i
 card_rest p last [] e calm late go so = record { after = unsaid p; taken = λ more. refl }
 card_rest p last (item ∷ items) e calm late go so =
     let cut = cut_is item (stands_cut p item p.owed refl e go.0 go.1.stands) in
-    record { after = last; taken = more_taken (unsaid p) last (item ∷ items) (more_cut p last item items cut e calm late go) (so_cut p item items cut e so) }
+    record { after = last; taken = more_taken (unsaid p) last (item ∷ items) (more_cut p last item items cut e calm late go) (so_cut p item items cut e calm so) }
 
 card_begins : (b last : State) (n id count : ℕ) (kept : Bool) (items : List Item) → IsLast b n id count kept → Begins b (Phase n id count kept) items last → StaysSo b (Phase n id count kept ∷ items) → IsOpened b (Phase n id count kept ∷ items)
 card_begins b last n id count kept items x begins so =

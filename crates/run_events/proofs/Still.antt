@@ -4,29 +4,29 @@ use Rattle.std.proofs.lemmas.Bool.{false≢true, and_parts, or_from}
 use Rattle.storage_machine.specs.Commands.{is_calm}
 use Rattle.storage_machine.specs.Cuts.{is_due}
 use Rattle.storage_machine.specs.Host.{has_work, to_do}
-use Rattle.storage_machine.specs.declared.state.Event.TheVariants.{Untold, Told}
-use Rattle.storage_machine.specs.declared.state.Owed.TheVariants.{Nothing, Dark}
+use Rattle.storage_machine.specs.declared.state.Event.{Event}
+use Rattle.storage_machine.specs.declared.state.Event.TheVariants.{Untold, Told, Due}
+use Rattle.storage_machine.specs.declared.state.Owed.TheVariants.{Nothing}
 use Rattle.storage_machine.specs.declared.state.State.{State}
 use Rattle.storage_model.specs.declared.faults.Letter.{Letter}
 use Rattle.storage_model.specs.declared.faults.Letter.TheVariants.{Card, Engine, Host, Cut as PowerActs}
 use Rattle.storage_model.specs.declared.trace.Item.{Item}
 use Rattle.storage_model.specs.declared.trace.Item.TheVariants.{Phase, Cut}
-use Rattle.storage_order.specs.Events.{end_rule, rule_of_end}
-use Rattle.storage_order.specs.Order.{is_of_next, letters_left, starts, starts_at}
-use Rattle.run_events.proofs.CardLast.{rested_card, unsaid, work_event}
-use Rattle.run_lines.proofs.Cuts.{cut_first, cut_rule, plain_tick, plain_told, plainly_cut}
+use Rattle.storage_order.specs.Events.{end_rule, ended, ended_by, rule_of_end}
+use Rattle.storage_order.specs.Order.{is_of_next, starts, starts_at}
+use Rattle.run_events.proofs.CardLast.{plain_unsaid, rested_card, unsaid, work_event}
+use Rattle.run_lines.proofs.Cuts.{cut_first, cut_rule, plain_tick, plain_told, plainly_cut, told_cut}
 use Rattle.storage_runs.proofs.Ends.{First}
 use Rattle.storage_runs.proofs.Hushes.{IsKept, Rests}
 use Rattle.run_lines.proofs.Hosts.{no_letters}
-use Rattle.storage_runs.proofs.Lags.{IsBusied, Onward, Reached, not_false}
+use Rattle.storage_runs.proofs.Lags.{IsBusied, Onward, Reached, calm_work, not_false, recovery_engine}
 use Rattle.storage_runs.proofs.Lines.{event_none, order_same, settled_same}
 use Rattle.storage_runs.proofs.Plans.{ended_plan}
 use Rattle.storage_runs.proofs.Told.{due_event}
 use Rattle.storage_runs.specs.Laws.{rested}
 use Rattle.storage_runs.specs.Runs.{next_letter}
 use Rattle.run_events.proofs.Idles.{engine_onward, late_onward}
-use Rattle.trace_effects.specs.Cuts.{used}
-use Rattle.trace_effects.specs.Effects.{first_cut, line_used, over}
+use Rattle.trace_effects.specs.Effects.{letters_left}
 use Rattle.trace_rules.specs.Lines.{is_free}
 use Rattle.trace_rules.specs.Steps.{is_line_of, is_nothing, stands_in}
 
@@ -57,27 +57,9 @@ its_line m s letter item x inside =
     not_begun (is_nothing m.owed) (is_line_of letter (is_calm m.recovery) item && not (is_of_next m letter item)) (ap is_nothing x.owed)
     (sym (ap (λ free. free && starts_at m (Told letter) item) (ap is_free x.owed)) ∙ (sym (ap (λ event. is_free m.owed && starts_at m event item) x.event) ∙ inside))
 
-told_cut : (m : State) (letter : Letter) → m.event ≡ Told letter → first_cut m ≡ plainly_cut m
-told_cut m letter e = ap (λ event. over (record m { cuts = used m.cuts (line_used m event); worked = to_do m; spent = 0; notice = false; count = 0 }) (Dark 0)) e
-
--- the engine's cut is taken as the told event's
-pub told_cut_first : (m s : State) (letter : Letter) → Still m s letter → starts m Cut ≡ false → stands_in m m.event Cut ≡ true → plainly_cut m ≡ plainly_cut s → First m (record s { event = Told Engine }) Cut
-told_cut_first m s letter x inside stands same = record {
-  at = m;
-  settled = settled_same m Cut inside;
-  order = order_same m Cut inside;
-  line = cut_rule m (ap is_free x.owed);
-  event = event_none m Cut stands refl refl refl;
-  effect = cut_first m (ap is_free x.owed) ∙ (told_cut m letter x.event ∙ (same ∙ (sym (plain_told s) ∙ sym (cut_first (record s { event = Told Engine }) (ap is_free x.rest.owed)))));
-}
-
 pub not_busy : (busy : Bool) → not (busy && true) ≡ true → busy ≡ true → false ≡ true
 not_busy true a b = a
 not_busy false a b = b
-
-pub plain_unsaid : (m : State) → plainly_cut (unsaid m) ≡ plainly_cut m
-unfolding to_do
-plain_unsaid m = refl
 
 -- where no phase is under way, only counted completions came between
 pub plain_onward : (r s : State) → Onward r s → (s.busy ≡ true → false ≡ true) → plainly_cut r ≡ plainly_cut s
@@ -91,6 +73,41 @@ still_depth m s letter x = rw (ap (λ plan. plan.depth) (ended_plan m)) x.depth
 pub still_onward : (m s : State) (letter : Letter) → Still m s letter → has_work s ≡ false → Onward (rested m) s
 still_onward m s letter x work = engine_onward (rested m) s x.on work x.some (still_depth m s letter x)
 
+worked_onward : (r s : State) → Onward r s → has_work s ≡ false → has_work r ≡ false
+worked_onward r s (inl x) work = sym (ap has_work x) ∙ work
+worked_onward r s (inr (inl x)) work = x.work
+worked_onward r s (inr (inr x)) work = x.work
+
+-- no recovery is under way where the host has no work
+recovery_event : (m : State) (event : Event) → (ended_by m event).recovery ≡ m.recovery
+recovery_event m Untold = refl
+recovery_event m Due = refl
+recovery_event m (Told Host) = refl
+recovery_event m (Told Engine) = recovery_engine (record m { event = Untold })
+recovery_event m (Told Card) = refl
+recovery_event m (Told PowerActs) = refl
+
+pub recovery_rested : (m : State) → (rested m).recovery ≡ m.recovery
+unfolding ended
+recovery_rested m = recovery_event m m.event
+
+still_calm : (m s : State) (letter : Letter) → Still m s letter → has_work s ≡ false → is_calm m.recovery ≡ true
+still_calm m s letter x work = sym (ap is_calm (recovery_rested m)) ∙ calm_work (rested m) (worked_onward (rested m) s (still_onward m s letter x work) work)
+
+-- the engine's cut is taken as the told event's
+pub told_cut_first : (m s : State) (letter : Letter) → Still m s letter → has_work s ≡ false → starts m Cut ≡ false → stands_in m m.event Cut ≡ true → plainly_cut m ≡ plainly_cut s → First m (record s { event = Told Engine }) Cut
+told_cut_first m s letter x work inside stands same = record {
+  at = m;
+  settled = settled_same m Cut inside;
+  order = order_same m Cut inside;
+  line = cut_rule m (ap is_free x.owed);
+  event = event_none m Cut stands refl refl refl;
+  effect =
+      cut_first m (ap is_free x.owed)
+      ∙ (told_cut m letter x.event (still_calm m s letter x work)
+      ∙ (same ∙ (sym (plain_told s (calm_work s work)) ∙ sym (cut_first (record s { event = Told Engine }) (ap is_free x.rest.owed)))));
+}
+
 -- the card's event
 card_rest : (m s : State) → Still m s Card → rested m ≡ unsaid m
 card_rest m s x = rested_card m x.event x.owed
@@ -100,13 +117,8 @@ card_stands m owed e = ap (λ event. stands_in m event Cut) e ∙ ap (λ owed. c
 
 pub card_cut : (m s : State) → Still m s Card → has_work s ≡ false → (s.busy ≡ true → false ≡ true) → starts m Cut ≡ false → First m (record s { event = Told Engine }) Cut
 card_cut m s x work free inside =
-    told_cut_first m s Card x inside (card_stands m x.owed x.event)
+    told_cut_first m s Card x work inside (card_stands m x.owed x.event)
     (sym (plain_unsaid m) ∙ (ap (λ y. plainly_cut y) (sym (card_rest m s x)) ∙ plain_onward (rested m) s (still_onward m s Card x work) free))
-
-worked_onward : (r s : State) → Onward r s → has_work s ≡ false → has_work r ≡ false
-worked_onward r s (inl x) work = sym (ap has_work x) ∙ work
-worked_onward r s (inr (inl x)) work = x.work
-worked_onward r s (inr (inr x)) work = x.work
 
 card_worked : (m s : State) → Still m s Card → has_work (rested m) ≡ false → has_work m ≡ false
 card_worked m s x work = sym (work_event m Untold) ∙ (ap has_work (sym (card_rest m s x)) ∙ work)

@@ -1,12 +1,14 @@
 -- The cut of a last flush is taken, with the lines behind it.
 use Rattle.std.proofs.Common.{◌≡◌, ◌∙◌, ◌≤◌, Bool, true, false, cond, ◌&&◌, ◌||◌, not, is_some, List, ◌∷◌, ◌++◌, refl, ap, sym}
-use Rattle.std.proofs.lemmas.Bool.{and_left, or_from, or_left}
+use Rattle.std.proofs.lemmas.Bool.{false≢true, and_left, or_from, or_left}
+use Rattle.run_laws.proofs.Lasts.{last_first, same_rest}
 use Rattle.run_laws.proofs.Plains.{AllPlain, cut_plain, more_plain}
 use Rattle.run_laws.specs.Whole.{Dropped, Drops, DropsFirst}
 use Rattle.storage_machine.specs.Commands.{is_calm}
 use Rattle.storage_machine.specs.Cuts.{due_line, is_due}
 use Rattle.storage_machine.specs.Host.{has_work, recovery_steps, to_do}
-use Rattle.storage_machine.specs.declared.state.Event.TheVariants.{Untold, Due}
+use Rattle.storage_machine.specs.declared.state.Event.{Event}
+use Rattle.storage_machine.specs.declared.state.Event.TheVariants.{Untold, Told, Due}
 use Rattle.storage_machine.specs.declared.state.Owed.{Owed}
 use Rattle.storage_machine.specs.declared.state.Owed.TheVariants.{Nothing}
 use Rattle.storage_machine.specs.declared.state.State.{State}
@@ -14,20 +16,21 @@ use Rattle.storage_model.specs.declared.trace.Item.{Item}
 use Rattle.storage_model.specs.declared.trace.Item.TheVariants.{Cut}
 use Rattle.storage_order.specs.Accept.{accept_from}
 use Rattle.storage_order.specs.Events.{ended, engine_step}
-use Rattle.storage_order.specs.Order.{engine_first, forced, is_next, letters_left, next_actor, with_due}
+use Rattle.storage_order.specs.Order.{engine_first, forced, is_next, next_actor, with_due}
 use Rattle.run_lines.proofs.Cuts.{cut_first, cut_rule, due_rested, plain_owed, plain_untold, rested_owed, steps_owed}
 use Rattle.storage_runs.proofs.Ends.{First, after_by, more_plan}
 use Rattle.run_lines.proofs.Engines.{enters_first, untold_starts}
-use Rattle.run_events.proofs.Finals.{letters_same, not_late, reached_end}
+use Rattle.run_events.proofs.Finals.{not_late, reached_end}
+use Rattle.run_events.proofs.Firsts.{due_told}
 use Rattle.storage_runs.proofs.Hushes.{Rests, rests, rests_kept, unseen_kept}
-use Rattle.storage_runs.proofs.Lags.{unseen_late, unseen_letters, unseen_reached}
+use Rattle.storage_runs.proofs.Lags.{unseen_late, unseen_reached}
 use Rattle.storage_runs.proofs.Lines.{event_none, one_taken}
 use Rattle.storage_runs.proofs.Mores.{ended_untold, more_taken, no_step, start_none}
 use Rattle.storage_runs.proofs.Plans.{ended_plan}
 use Rattle.storage_runs.proofs.Turns.{due_owed}
 use Rattle.storage_runs.specs.Laws.{Closes, IsOpened, StandsAt, rested}
 use Rattle.trace_effects.proofs.Sounds.{effect_keeps}
-use Rattle.trace_effects.specs.Effects.{effect}
+use Rattle.trace_effects.specs.Effects.{effect, letters_left}
 use Rattle.trace_rules.specs.Lines.{is_free}
 use Rattle.trace_rules.specs.Steps.{is_cut, is_line_of, is_nothing, stands_in}
 
@@ -46,9 +49,6 @@ forced_at m y false letters at late late_y =
 steps_at : (m s : State) (left : Bool) → letters_left m ≡ left → m.event ≡ Untold → (letters_left m ≡ true → s ≡ rested m) → recovery_steps (rested m) ≡ s → cond left m (recovery_steps m) ≡ record s { owed = m.owed }
 steps_at m s true letters e same steps = rested_owed m e ∙ ap {A = State} (λ y. record y { owed = m.owed }) (sym (same letters))
 steps_at m s false letters e same steps = ap recovery_steps (rested_owed m e) ∙ (steps_owed (rested m) m.owed ∙ ap {A = State} (λ y. record y { owed = m.owed }) steps)
-
-letters_rested : (m : State) → m.event ≡ Untold → letters_left (rested m) ≡ letters_left m
-letters_rested m e = ap (λ x. letters_left x) (ended_untold m e)
 
 to_do_owed : (s : State) (owed : Owed) → to_do (record s { owed = owed }) ≡ to_do s
 unfolding to_do
@@ -72,25 +72,27 @@ cut_at m s st e rest none late at =
       effect = cut_first x st.free ∙ (plain_untold x rest.event ∙ (plain_owed s m.owed ∙ (sym (plain_untold s rest.event) ∙ sym (cut_first s (ap is_free rest.owed)))));
     })
 
-same_rest : (m s : State) → StandsAt m s → m.event ≡ Untold → letters_left m ≡ true → s ≡ rested m
-same_rest m s st e left = letters_same (rested m) s (unseen_letters st.count (rested m) s (rests m) st.unseen) (letters_rested m e ∙ left)
-
-drop_first : (m s : State) → StandsAt m s → m.event ≡ Untold → to_do s ≡ false → First m s Cut
-drop_first m s st e none =
+untold_first : (m s : State) → StandsAt m s → m.event ≡ Untold → to_do s ≡ false → First m s Cut
+untold_first m s st e none =
     let r = rested m in
     let kept = unseen_kept st.count r s (rests m) st.unseen in
     let rest = rests_kept r s (rests m) kept in
     let steps = reached_end r s (unseen_reached st.count r s (rests m) st.unseen) none in
     let late = not_late r s (is_due r) refl (unseen_late st.count r s (rests m) st.unseen) none in
     cut_at m s st e rest none late
-    (forced_at m (record s { owed = m.owed }) (letters_left m) refl (steps_at m s (letters_left m) refl e (same_rest m s st e) steps) (sym (due_rested m e) ∙ late) (due_owed s m.owed ∙ none_due s none))
+    (forced_at m (record s { owed = m.owed }) (letters_left m) refl (steps_at m s (letters_left m) refl e (same_rest m s st) steps) (sym (due_rested m e) ∙ late) (due_owed s m.owed ∙ none_due s none))
+
+event_first : (m s : State) (event : Event) → m.event ≡ event → StandsAt m s → to_do s ≡ false → s.busy ≡ false → First m s Cut
+event_first m s Untold e st none idle = untold_first m s st e none
+event_first m s Due e st none idle = absurd (false≢true (due_told m st.ends e))
+event_first m s (Told letter) e st none idle = last_first m s letter st e none idle
 
 drops_plain : (s last : State) (items : List Item) → Drops s items last → AllPlain (effect s Cut) last items
 drops_plain s last items drops = more_plain (effect s Cut) last items (cut_plain s drops.free drops.none) drops.more
 
-drops_taken : (m s last : State) (items : List Item) → StandsAt m s → m.event ≡ Untold → Drops s items last → (more : List Item) → accept_from ((Cut ∷ items) ++ more) m ≡ accept_from more last
-drops_taken m s last items st e drops more =
-    let first = drop_first m s st e drops.none in
+drops_taken : (m s last : State) (items : List Item) → StandsAt m s → Drops s items last → (more : List Item) → accept_from ((Cut ∷ items) ++ more) m ≡ accept_from more last
+drops_taken m s last items st drops more =
+    let first = event_first m s m.event refl st drops.none drops.idle in
     one_taken m first.at Cut first.settled first.order first.line first.event (items ++ more)
     ∙ (ap (accept_from (items ++ more)) first.effect ∙ more_taken (effect s Cut) last items drops.more (drops_plain s last items drops).so more)
 
@@ -103,15 +105,15 @@ lines_close : (m t : State) (lines items : List Item) → lines ≡ items → Cl
 lines_close m t lines items at closes = rw at closes
 
 -- a last flush that loses power
-pub drop_closes : (m s t : State) (lines : List Item) → StandsAt m s → m.event ≡ Untold → Dropped s lines t → Closes m t lines
-drop_closes m s t lines st e x =
+pub drop_closes : (m s t : State) (lines : List Item) → StandsAt m s → Dropped s lines t → Closes m t lines
+drop_closes m s t lines st x =
     let last = x.last in
     let over = (drops_plain s last x.items x.drops).event in
     lines_close m t lines (Cut ∷ x.items) x.printed (record {
       takes = record {
         after = last;
         stands = after_by last t last.owed refl x.over over x.state (depth_last m s last x.items st x.drops);
-        taken = drops_taken m s last x.items st e x.drops;
+        taken = drops_taken m s last x.items st x.drops;
       };
       event = over;
     })
@@ -120,5 +122,5 @@ lines_open : (m : State) (lines items : List Item) → lines ≡ items → IsOpe
 lines_open m lines items at opened = rw at opened
 
 -- and the first of its lines
-pub drop_opened : (m s : State) (lines : List Item) → StandsAt m s → m.event ≡ Untold → DropsFirst s lines → IsOpened m lines
-drop_opened m s lines st e x = lines_open m lines (Cut ∷ x.0) x.2 (record { after = x.1; taken = drops_taken m s x.1 x.0 st e x.3 })
+pub drop_opened : (m s : State) (lines : List Item) → StandsAt m s → DropsFirst s lines → IsOpened m lines
+drop_opened m s lines st x = lines_open m lines (Cut ∷ x.0) x.2 (record { after = x.1; taken = drops_taken m s x.1 x.0 st x.3 })

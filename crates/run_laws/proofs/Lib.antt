@@ -1,4 +1,5 @@
 pub mod Plains
+pub mod Lasts
 pub mod Drops
 pub mod Courses
 pub mod Whole

@@ -12,7 +12,8 @@ use Rattle.storage_model.specs.declared.trace.End.{End}
 use Rattle.storage_model.specs.declared.trace.Item.{Item}
 use Rattle.storage_model.specs.declared.trace.Item.TheVariants.{Cut, Lost, On, Left, Off}
 use Rattle.storage_order.specs.Events.{More, goes_on}
-use Rattle.run_lines.proofs.Cuts.{cut_first}
+use Rattle.run_events.proofs.Finals.{calm_idle}
+use Rattle.run_lines.proofs.Cuts.{calm_cut, cut_first}
 use Rattle.storage_runs.proofs.Lines.{for_owed}
 use Rattle.storage_runs.specs.Runs.{StaysSo}
 use Rattle.trace_effects.specs.Cuts.{epochs_with, is_deferred, places_of}
@@ -103,4 +104,4 @@ more_plain s last (item ∷ items) plain go =
 
 -- the first cut
 pub cut_plain : (s : State) → is_free s.owed ≡ true → to_do s ≡ false → Plain (effect s Cut)
-cut_plain s free none = plain_at (effect s Cut) (first_cut s) (cut_first s free) (record { owed = none; event = refl })
+cut_plain s free none = plain_at (effect s Cut) (first_cut s) (cut_first s free) (record { owed = ap to_do (calm_cut s (calm_idle s none)) ∙ none; event = refl })

@@ -2,7 +2,7 @@
 use Rattle.std.proofs.Common.{inl, inr, ◌≡◌, ◌∙◌, ◌⊎◌, ◌≤◌, ℕ, Bool, true, false, Option, Some, None, Result, Ok, cond, ◌&&◌, ◌==◌, ◌||◌, not, length, List, [], ◌∷◌, ◌++◌, append-nil, refl, ap, sym}
 use Rattle.std.proofs.lemmas.Bool.{false≢true, and_from, eq-eqb}
 use Rattle.run_laws.proofs.Courses.{begun_by, course_leads}
-use Rattle.run_events.specs.Laws.{Leads, last_of}
+use Rattle.run_events.specs.Laws.{Leads}
 use Rattle.run_laws.specs.Whole.{Course, Finishes, Front, IsAccepted, IsWholeFrontTaken, IsWholeTaken, card_line, lines_shown, off_lines, opened}
 use Rattle.storage_machine.specs.Cuts.{is_due}
 use Rattle.storage_machine.specs.declared.state.Event.TheVariants.{Untold}
@@ -80,7 +80,7 @@ opened_stands base plan faults most =
       unseen = sym (ap {A = State} (λ y. record y { owed = Nothing }) (ended_untold s e));
     }
 
-course_begun : (base : List Block) (plan : Plan) (faults : Faults) (parts : List (List Item)) (last : State) → IsValidPlan plan → Course (card_line base plan) (opened base plan faults) parts last
+course_begun : (base : List Block) (plan : Plan) (faults : Faults) (parts : List (List Item)) (last : State) → IsValidPlan plan → Course (opened base plan faults) parts last
     → Leads (card_line base plan) (opened base plan faults) last (joined parts)
 course_begun base plan faults parts last valid course =
     course_leads (card_line base plan) (opened base plan faults) (opened base plan faults) last parts (opened_stands base plan faults valid.depth.0) (λ told. card_event base plan faults) course
@@ -114,7 +114,7 @@ whole_taken base plan faults lines t valid whole =
 front_by : (base : List Block) (plan : Plan) (faults : Faults) (lines : List Item) → IsValidPlan plan → Front base plan faults lines → IsAccepted base plan faults lines
 front_by base plan faults lines valid front =
     let led = course_begun base plan faults front.parts front.last valid front.course in
-    let opened = begun_by (last_of (card_line base plan) (joined front.parts)) led.takes.after front.last front.first led.takes.stands led.seen front.begun in (
+    let opened = begun_by led.takes.after front.last front.first led.takes.stands front.begun in (
       opened.after,
       accepted_from base plan faults lines
           ∙ (ap (λ lines. accept_from lines (started base plan faults)) front.printed

@@ -1,6 +1,5 @@
 -- Whole runs: the card line, then one event after the other, then the end's line. Where nothing is to do and the last flush loses power, the lines of its cut
 -- come, and the run goes on.
-use Rattle.run_events.specs.Laws.{last_of, tells}
 use Rattle.std.specs.Prelude.{◌≡◌, ◌⊎◌, ℕ, true, false, if◌then◌else◌, Option, Some, None, Ok, List, [], ◌∷◌, ◌++◌, length}
 use Rattle.storage_machine.specs.Host.{to_do}
 use Rattle.storage_machine.specs.declared.state.Owed.TheVariants.{Nothing, End as Ended}
@@ -30,10 +29,11 @@ card_line base plan = Card (length base) plan.depth (lines_shown plan)
 abbrev pub opened : List Block → Plan → Faults → State
 opened base plan faults = record (started base plan faults) { owed = Nothing }
 
--- Nothing is to do, and the last flush loses power. These lines stand behind the cut.
+-- Nothing is to do and no phase is under way, and the last flush loses power. These lines stand behind the cut.
 pub record Drops (s : State) (items : List Item) (last : State) : Type 0 where
   pub free : is_free s.owed ≡ true
   pub none : to_do s ≡ false
+  pub idle : s.busy ≡ false
   pub more : More (effect s Cut) items last
 
 -- they are all that follow from it
@@ -45,19 +45,14 @@ pub record Dropped (s : State) (lines : List Item) (t : State) : Type 0 where
   pub over : is_over last.owed ≡ true
   pub state : t ≡ record last { owed = closed last.owed }
 
--- A cut stands apart from the event before. The case that is left out: where the last line is the letter of an engine's or a card's event that printed nothing
--- else, the acceptance takes a cut as one of that event, and not of the last flush.
-abbrev pub IsApart : Item → Type 0
-IsApart before = tells before ≡ false
-
 -- a part of a run: the next event, or a last flush that loses power
-abbrev pub Part : Item → State → List Item → State → Type 0
-Part before s lines t = Comes s lines t ⊎ (IsApart before × Dropped s lines t)
+abbrev pub Part : State → List Item → State → Type 0
+Part s lines t = Comes s lines t ⊎ Dropped s lines t
 
 -- one part after the other
-abbrev pub Course : Item → State → List (List Item) → State → Type 0
-Course before s [] t = t ≡ s
-Course before s (lines ∷ parts) t = (u : State) × Part before s lines u × Course (last_of before lines) u parts t
+abbrev pub Course : State → List (List Item) → State → Type 0
+Course s [] t = t ≡ s
+Course s (lines ∷ parts) t = (u : State) × Part s lines u × Course u parts t
 
 -- how a run ends: by the end's line where nothing is to do, or by one among the lines of a cut
 abbrev pub Finishes : State → Option End → State → Type 0
@@ -74,7 +69,7 @@ pub record Whole (base : List Block) (plan : Plan) (faults : Faults) (lines : Li
   pub last : State
   pub end : Option End
   pub printed : lines ≡ card_line base plan ∷ (joined parts ++ off_lines end)
-  pub course : Course (card_line base plan) (opened base plan faults) parts last
+  pub course : Course (opened base plan faults) parts last
   pub finishes : Finishes last end t
 
 abbrev pub IsWholeTaken : List Block → Plan → Faults → List Item → State → Type 0
@@ -84,8 +79,8 @@ IsWholeTaken base plan faults lines t = IsValidPlan plan → Whole base plan fau
 abbrev pub DropsFirst : State → List Item → Type 0
 DropsFirst s lines = (items : List Item) × (last : State) × (lines ≡ Cut ∷ items) × Drops s items last
 
-abbrev pub Begun : Item → State → List Item → Type 0
-Begun before s lines = (lines ≡ []) ⊎ (((last : State) × Opens s lines last) ⊎ (IsApart before × DropsFirst s lines))
+abbrev pub Begun : State → List Item → Type 0
+Begun s lines = (lines ≡ []) ⊎ (((last : State) × Opens s lines last) ⊎ DropsFirst s lines)
 
 -- the lines that a run wrote up to the failure of its sink: those of its parts, and the first of one more
 pub record Front (base : List Block) (plan : Plan) (faults : Faults) (lines : List Item) : Type 0 where
@@ -93,8 +88,8 @@ pub record Front (base : List Block) (plan : Plan) (faults : Faults) (lines : Li
   pub last : State
   pub first : List Item
   pub printed : lines ≡ card_line base plan ∷ (joined parts ++ first)
-  pub course : Course (card_line base plan) (opened base plan faults) parts last
-  pub begun : Begun (last_of (card_line base plan) (joined parts)) last first
+  pub course : Course (opened base plan faults) parts last
+  pub begun : Begun last first
 
 abbrev pub IsAccepted : List Block → Plan → Faults → List Item → Type 0
 IsAccepted base plan faults lines = (t : State) × (accept base plan faults lines ≡ Ok t)

@@ -1,28 +1,32 @@
 -- A cut that no letter tells is taken, the engine's or that of a due line.
-use Rattle.std.proofs.Common.{inl, inr, ◌≡◌, ◌∙◌, Bool, true, false, None, cond, ◌&&◌, not, refl, ap, sym}
+use Rattle.std.proofs.Common.{inl, inr, ◌≡◌, ◌∙◌, Bool, true, false, None, cond, ◌&&◌, ◌||◌, not, refl, ap, sym}
 use Rattle.std.proofs.lemmas.Bool.{and_from, and_left, or_from, and_right, or_right}
+use Rattle.storage_machine.specs.Commands.{is_calm}
 use Rattle.storage_machine.specs.Cuts.{due_line, is_due}
 use Rattle.storage_machine.specs.Host.{has_work, next_issue, recovery_steps, recovery_steps_at, to_do}
+use Rattle.storage_machine.specs.declared.state.Event.{Event}
 use Rattle.storage_machine.specs.declared.state.Event.TheVariants.{Untold, Told, Due}
 use Rattle.storage_machine.specs.declared.state.Owed.{Owed}
 use Rattle.storage_machine.specs.declared.state.Owed.TheVariants.{Nothing, Closed, Dark}
 use Rattle.storage_machine.specs.declared.state.Recovery.{Recovery}
 use Rattle.storage_machine.specs.declared.state.Recovery.TheVariants.{Calm, Halted, Cleared, Discarded, Cleaned, Resumed}
 use Rattle.storage_machine.specs.declared.state.State.{State}
+use Rattle.storage_model.specs.declared.faults.Letter.{Letter}
 use Rattle.storage_model.specs.declared.faults.Letter.TheVariants.{Engine}
 use Rattle.storage_model.specs.declared.trace.Item.TheVariants.{Cut}
 use Rattle.storage_order.specs.Events.{end_rule, ended, engine_step}
-use Rattle.storage_order.specs.Order.{engine_first, forced, is_next, letters_left, with_due}
+use Rattle.storage_order.specs.Order.{engine_first, forced, is_next, with_due}
 use Rattle.storage_runs.proofs.Ends.{First}
 use Rattle.run_lines.proofs.Engines.{engine_next, enters_first, untold_starts}
 use Rattle.storage_runs.proofs.Hushes.{Rests, rests}
 use Rattle.storage_runs.proofs.Lags.{Reached, calm_work}
 use Rattle.storage_runs.proofs.Lines.{event_none}
-use Rattle.storage_runs.proofs.Mores.{calm_steps, ended_untold, start_none}
+use Rattle.storage_runs.proofs.Mores.{calm_steps, either_same, ended_untold, start_none}
 use Rattle.storage_runs.proofs.Turns.{due_owed}
 use Rattle.storage_runs.specs.Laws.{StandsAt, rested}
+use Rattle.trace_effects.proofs.Steps.{Touched, touched}
 use Rattle.trace_effects.specs.Cuts.{used}
-use Rattle.trace_effects.specs.Effects.{after_cut, cut_at, effect, first_cut, line_used, over}
+use Rattle.trace_effects.specs.Effects.{after_cut, at_cut, cut_at, effect, first_cut, is_last, is_quiet, letters_left, line_used, over}
 use Rattle.trace_rules.specs.Lines.{cut_holds, holds, is_free, line_rule}
 use Rattle.trace_rules.specs.Steps.{is_nothing, stands_in}
 
@@ -49,12 +53,54 @@ cut_first s free = first_cut_by s s.owed free
 abbrev pub plainly_cut : State → State
 plainly_cut s = over (record s { worked = to_do s; spent = 0; notice = false; count = 0 }) (Dark 0)
 
-pub plain_untold : (s : State) → s.event ≡ Untold → first_cut s ≡ plainly_cut s
-plain_untold s e = ap (λ event. over (record s { cuts = used s.cuts (line_used s event); worked = to_do s; spent = 0; notice = false; count = 0 }) (Dark 0)) e
+-- the cut in this event
+abbrev at_by : State → Event → State
+at_by s event = cond (is_quiet event && not (letters_left s || to_do (recovery_steps s))) (recovery_steps s) s
 
-pub plain_told : (s : State) → first_cut (record s { event = Told Engine }) ≡ plainly_cut s
+abbrev first_by : State → Event → State
+first_by s event = over (record s {
+  slots = (at_by s event).slots;
+  recovery = (at_by s event).recovery;
+  cuts = used s.cuts (line_used s event);
+  worked = to_do (at_by s event);
+  spent = 0;
+  notice = false;
+  count = 0;
+}) (Dark 0)
+
+pub plain_untold : (s : State) → s.event ≡ Untold → first_cut s ≡ plainly_cut s
+plain_untold s e = ap (first_by s) e
+
+told_by : (s y : State) (letter : Letter) → Touched s y
+    → over (record s { slots = y.slots; recovery = y.recovery; cuts = used s.cuts (line_used s (Told letter)); worked = to_do y; spent = 0; notice = false; count = 0 }) (Dark 0) ≡ plainly_cut y
+told_by s y letter at = sym (ap (λ z. over (record z { slots = y.slots; recovery = y.recovery; worked = to_do y; spent = 0; notice = false; count = 0 }) (Dark 0)) at)
+
+-- in an event that a letter tells
+pub first_told : (s : State) (letter : Letter) → s.event ≡ Told letter → first_cut s ≡ plainly_cut (at_cut s)
+first_told s letter e =
+    ap (λ event. over (record s {
+      slots = (at_cut s).slots;
+      recovery = (at_cut s).recovery;
+      cuts = used s.cuts (line_used s event);
+      worked = to_do (at_cut s);
+      spent = 0;
+      notice = false;
+      count = 0;
+    }) (Dark 0)) e ∙ told_by s (at_cut s) letter (touched s)
+
+-- without a recovery no step is taken
+pub calm_cut : (s : State) → is_calm s.recovery ≡ true → at_cut s ≡ s
+calm_cut s calm = either_same (is_last s) (recovery_steps s) s s (calm_steps s calm) refl
+
+pub told_cut : (s : State) (letter : Letter) → s.event ≡ Told letter → is_calm s.recovery ≡ true → first_cut s ≡ plainly_cut s
+told_cut s letter e calm = first_told s letter e ∙ ap (λ y. plainly_cut y) (calm_cut s calm)
+
+plain_event : (s : State) (event : Event) → plainly_cut (record s { event = event }) ≡ plainly_cut s
 unfolding to_do
-plain_told s = refl
+plain_event s event = refl
+
+pub plain_told : (s : State) → is_calm s.recovery ≡ true → first_cut (record s { event = Told Engine }) ≡ plainly_cut s
+plain_told s calm = told_cut (record s { event = Told Engine }) Engine refl calm ∙ plain_event s (Told Engine)
 
 pub plain_owed : (s : State) (owed : Owed) → plainly_cut (record s { owed = owed }) ≡ plainly_cut s
 unfolding to_do
@@ -124,13 +170,14 @@ cut_at_y m y b free e end letters late at e_y free_y letters_y work late_y same 
       effect = same;
     })
 
-cut_same : (z s : State) (owed : Owed) → is_free owed ≡ true → z.event ≡ Untold → s.owed ≡ Nothing → plainly_cut z ≡ plainly_cut s → effect (record z { owed = owed }) Cut ≡ effect (record s { event = Told Engine }) Cut
-cut_same z s owed free e rest same =
+cut_same : (z s : State) (owed : Owed) → is_free owed ≡ true → z.event ≡ Untold → s.owed ≡ Nothing → is_calm s.recovery ≡ true → plainly_cut z ≡ plainly_cut s
+    → effect (record z { owed = owed }) Cut ≡ effect (record s { event = Told Engine }) Cut
+cut_same z s owed free e rest calm same =
     cut_first (record z { owed = owed }) free
     ∙ (plain_untold (record z { owed = owed }) e
     ∙ (plain_owed z owed
     ∙ (same
-    ∙ (sym (plain_told s)
+    ∙ (sym (plain_told s calm)
     ∙ sym (cut_first (record s { event = Told Engine }) (ap is_free rest))))))
 
 letters_steps_at : (s : State) (recovery : Recovery) → letters_left (recovery_steps_at s recovery) ≡ letters_left s
@@ -174,7 +221,7 @@ engine_cut m s st e on letters late rest work late_s busy =
     let e_z = event_steps r ∙ (rests m).event in
     let letters_m = sym (letters_rested m e) ∙ letters in
     cut_at_y m (record z { owed = m.owed }) (record s { event = Told Engine }) st.free e st.ends letters_m (sym (due_rested m e) ∙ late) at e_z st.free (letters_steps r ∙ letters)
-    (work_owed z m.owed ∙ cut.work) (late_owed z m.owed ∙ cut.late) (cut_same z s m.owed st.free e_z rest.owed cut.same)
+    (work_owed z m.owed ∙ cut.work) (late_owed z m.owed ∙ cut.late) (cut_same z s m.owed st.free e_z rest.owed (calm_work s work) cut.same)
 
 -- the cut of a due line is taken
 due_forced : (m : State) → is_due m ≡ true → forced m Cut ≡ record m { event = Due }

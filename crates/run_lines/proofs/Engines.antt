@@ -19,7 +19,7 @@ use Rattle.storage_model.specs.declared.trace.Item.{Item}
 use Rattle.storage_model.specs.declared.trace.Item.TheVariants.{Params, Address, Poll, Bus}
 use Rattle.storage_order.proofs.Accepts.{holds_unbroken}
 use Rattle.storage_order.specs.Events.{Fits, end_rule, ended, may_pass}
-use Rattle.storage_order.specs.Order.{entered, forced, is_alone, is_next, next_actor, is_of_cut, letters_left, needs_step, order_rule, settled, start_rule, starts}
+use Rattle.storage_order.specs.Order.{entered, forced, is_alone, is_next, next_actor, is_of_cut, needs_step, order_rule, settled, start_rule, starts}
 use Rattle.storage_runs.proofs.Ends.{First}
 use Rattle.run_lines.proofs.Hosts.{next_turn, first_event, forced_steps, idle_due}
 use Rattle.storage_runs.proofs.Hushes.{Rests}
@@ -28,7 +28,7 @@ use Rattle.storage_runs.proofs.Lines.{event_none}
 use Rattle.storage_runs.proofs.Mores.{calm_steps, no_step, start_none}
 use Rattle.storage_runs.proofs.Turns.{behind_rested, due_owed}
 use Rattle.storage_runs.specs.Laws.{StandsAt, rested}
-use Rattle.trace_effects.specs.Effects.{addressed, after_address, after_bus, after_params, after_poll, effect, over}
+use Rattle.trace_effects.specs.Effects.{addressed, after_address, after_bus, after_params, after_poll, effect, letters_left, over}
 use Rattle.trace_rules.specs.Lines.{address_holds, bus_by_owed, bus_holds, is_address, is_heard, is_missed_now, is_params, holds, is_free, is_missed, is_poll, is_target, line_rule, params_holds, poll_holds}
 use Rattle.trace_rules.specs.Steps.{earlier, event_rule, is_cut, is_left_so, is_line_of, is_nothing, lower, yields_to_cut}
 

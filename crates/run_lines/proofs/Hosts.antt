@@ -19,7 +19,7 @@ use Rattle.storage_model.specs.declared.trace.Item.{Item}
 use Rattle.storage_model.specs.declared.trace.Item.TheVariants.{Issue, Phase, Discard, Bus, Flash, Recover, Irq, Fault, Refused, Cut}
 use Rattle.storage_order.proofs.Accepts.{holds_unbroken}
 use Rattle.storage_order.specs.Events.{Fits, end_rule, ended, ended_by, engine_step}
-use Rattle.storage_order.specs.Order.{engine_first, entered, forced, is_alone, is_next, next_actor, is_of_cut, is_of_next, letters_left, order_rule, settled, start_rule, starts}
+use Rattle.storage_order.specs.Order.{engine_first, entered, forced, is_alone, is_next, next_actor, is_of_cut, is_of_next, order_rule, settled, start_rule, starts}
 use Rattle.storage_runs.proofs.Ends.{First}
 use Rattle.storage_runs.proofs.Hushes.{Rests}
 use Rattle.storage_runs.proofs.Lags.{IsBusied, IsRecovered, IsTicked, Reached, calm_work, recovery_engine}
@@ -28,7 +28,7 @@ use Rattle.storage_runs.proofs.Mores.{no_step, start_none}
 use Rattle.storage_runs.proofs.Turns.{behind_rested, due_owed, starts_free}
 use Rattle.storage_runs.specs.Laws.{StandsAt, rested}
 use Rattle.storage_runs.specs.Runs.{next_letter}
-use Rattle.trace_effects.specs.Effects.{after_bus, after_discard, after_fault, after_irq, after_issue, after_recover, effect}
+use Rattle.trace_effects.specs.Effects.{after_bus, after_discard, after_fault, after_irq, after_issue, after_recover, effect, letters_left}
 use Rattle.trace_rules.specs.Lines.{bus_holds, discard_holds, fault_holds, holds, irq_holds, is_pair, line_rule, may_discard, recover_holds, refused_holds}
 use Rattle.trace_rules.specs.Steps.{earlier, is_cut, is_first_work, is_left_so, is_line_of, is_nothing, lower, yields_to_cut}
 

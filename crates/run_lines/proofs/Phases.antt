@@ -14,7 +14,7 @@ use Rattle.storage_model.specs.declared.faults.Letter.TheVariants.{Engine}
 use Rattle.storage_model.specs.declared.trace.Item.TheVariants.{Phase}
 use Rattle.storage_order.proofs.Accepts.{holds_unbroken}
 use Rattle.storage_order.specs.Events.{Fits, end_rule, ended, engine_step}
-use Rattle.storage_order.specs.Order.{engine_first, forced, is_next, letters_left, with_due}
+use Rattle.storage_order.specs.Order.{engine_first, forced, is_next, with_due}
 use Rattle.storage_runs.proofs.Ends.{First}
 use Rattle.run_lines.proofs.Engines.{engine_next, enters_first, hit_busy, untold_starts}
 use Rattle.run_lines.proofs.Hosts.{idle_due}
@@ -25,7 +25,7 @@ use Rattle.storage_runs.proofs.Mores.{calm_steps, start_none}
 use Rattle.storage_runs.proofs.Told.{phase_uncut}
 use Rattle.storage_runs.proofs.Turns.{behind_rested, due_owed}
 use Rattle.storage_runs.specs.Laws.{StandsAt, rested}
-use Rattle.trace_effects.specs.Effects.{effect}
+use Rattle.trace_effects.specs.Effects.{effect, letters_left}
 use Rattle.storage_model.specs.declared.block.Block.{Block}
 use Rattle.storage_model.specs.declared.faults.BusKind.{BusKind}
 use Rattle.storage_model.specs.declared.plan.Job.{Job}

@@ -9,7 +9,8 @@ use Rattle.storage_machine.specs.declared.state.Event.TheVariants.{Untold, Due}
 use Rattle.storage_machine.specs.declared.state.State.{State}
 use Rattle.storage_model.specs.declared.trace.Item.TheVariants.{Phase, Cut}
 use Rattle.storage_order.specs.Events.{Fits, engine_step, may_pass, passed}
-use Rattle.storage_order.specs.Order.{engine_first, forced, letters_left, with_due}
+use Rattle.trace_effects.specs.Effects.{letters_left}
+use Rattle.storage_order.specs.Order.{engine_first, forced, with_due}
 use Rattle.run_lines.proofs.Cuts.{due_cut_first}
 use Rattle.storage_runs.proofs.Ends.{First}
 use Rattle.run_lines.proofs.Engines.{enters_first, hit_busy, untold_starts}

@@ -14,7 +14,6 @@ use Rattle.storage_model.specs.declared.trace.Item.{Item}
 use Rattle.storage_model.specs.declared.trace.Item.TheVariants.{Params, Address, Poll, Phase, Bus, Cut}
 use Rattle.storage_order.specs.Accept.{accept_from}
 use Rattle.storage_order.specs.Events.{Fits, is_untold, shows_phase}
-use Rattle.storage_order.specs.Order.{letters_left}
 use Rattle.run_lines.proofs.Cuts.{engine_cut}
 use Rattle.storage_runs.proofs.Ends.{First}
 use Rattle.run_lines.proofs.Engines.{command_first}
@@ -27,7 +26,7 @@ use Rattle.run_lines.specs.Laws.{IsFirstTaken, Sets}
 use Rattle.storage_runs.proofs.Lines.{one_taken}
 use Rattle.storage_runs.specs.Laws.{StandsAt, rested}
 use Rattle.storage_runs.specs.Runs.{chosen, chosen_by, is_shown, next_letter}
-use Rattle.trace_effects.specs.Effects.{begun_by}
+use Rattle.trace_effects.specs.Effects.{begun_by, letters_left}
 use Rattle.trace_rules.specs.Steps.{is_cut, is_line_of, is_nothing, is_under_way, yields_to_cut}
 
 pub between : (m s : State) → StandsAt m s → m.event ≡ Untold → Between m s

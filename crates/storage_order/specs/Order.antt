@@ -3,6 +3,7 @@
 use Rattle.std.specs.Prelude.{ℕ, ◌&&◌, ◌||◌, nat_lt, Bool, true, false, not, if◌then◌else◌, Option, None, length}
 use Rattle.storage_machine.specs.Commands.{is_calm, is_idle}
 use Rattle.storage_machine.specs.Cuts.{is_due}
+use Rattle.trace_effects.specs.Effects.{letters_left}
 use Rattle.storage_machine.specs.Host.{has_work, recovery_steps, to_do}
 use Rattle.trace_rules.specs.Lines.{is_free}
 use Rattle.storage_order.specs.Events.{closed, end_rule, ended, engine_step}
@@ -14,9 +15,6 @@ use Rattle.storage_model.specs.declared.faults.Letter.{Letter}
 use Rattle.storage_model.specs.declared.faults.Letter.TheVariants.{Host as HostActs, Engine as EngineActs, Card as CardActs}
 use Rattle.storage_model.specs.declared.trace.Item.{Item}
 use Rattle.storage_model.specs.declared.trace.Item.TheVariants.{Phase, Irq, Cut, Turn, Off}
-
-abbrev pub letters_left : State → Bool
-letters_left s = nat_lt s.letters (length s.faults.turns)
 
 -- a phase whose own number has a `cut` line that isn't used
 abbrev pub is_cut_phase : State → Item → Bool

@@ -5,7 +5,8 @@ ghost use Rattle.storage_machine.specs.Cuts.{is_due};
 ghost use Rattle.storage_machine.specs.Host.{has_work};
 ghost use Rattle.storage_order.specs.Events.{closed, end_rule, ended};
 ghost use Rattle.trace_rules.specs.Steps.{is_cut, lower};
-ghost use Rattle.storage_order.specs.Order.{engine_first, entered, forced, is_alone, is_cut_phase, is_next, is_of_cut, is_of_next, is_phase, is_told, left_behind, letters_left, needs_step, next_actor, order_rule, settled, start_rule, starts, starts_at, untold_steps, with_due};
+ghost use Rattle.storage_order.specs.Order.{engine_first, entered, forced, is_alone, is_cut_phase, is_next, is_of_cut, is_of_next, is_phase, is_told, left_behind, needs_step, next_actor, order_rule, settled, start_rule, starts, starts_at, untold_steps, with_due};
+ghost use Rattle.trace_effects.specs.Effects.{letters_left};
 ghost use Rattle.storage_order.specs.Silent.{with_silent};
 
 use crate::events::{end, end_rule, engine_step};
@@ -14,6 +15,7 @@ use storage_machine::cuts::is_due;
 use storage_machine::host::{has_work, recovery_steps, to_do};
 use storage_machine::{Event, Owed, Recovery, Slot, State};
 use storage_model::{Item, Letter};
+use trace_effects::letters_left;
 use trace_rules::lines::is_free;
 use trace_rules::steps::{is_cut, is_cut_by, is_due_event, is_line_of, is_nothing, lower, unless};
 
@@ -56,12 +58,6 @@ pub fn restore(s: &mut State, silent: &Silent)
     s.count = silent.count;
     s.event = silent.event;
     s.owed = silent.owed;
-}
-
-fn letters_left(s: &State) -> bool
-    ensures { result ≡ letters_left s.now }
-{
-    s.letters < s.faults.turns.len()
 }
 
 fn is_cut_phase(s: &State, item: &Item) -> bool

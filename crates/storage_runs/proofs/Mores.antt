@@ -15,10 +15,10 @@ use Rattle.storage_model.specs.declared.trace.Item.{Item}
 use Rattle.storage_model.specs.declared.trace.Item.TheVariants.{Card, Issue, Params, Address, Poll, Phase, Discard, Bus, Flash, Recover, Irq, Done, Read, Sector, Status, Fault, Refused, Cut, Lost, On, Left, Turn, Off}
 use Rattle.storage_order.specs.Accept.{accept_from}
 use Rattle.storage_order.specs.Events.{More, end_rule, ended, ended_by, engine_step, goes_on, is_untold, rule_of_end}
-use Rattle.storage_order.specs.Order.{entered, forced, is_next, next_actor, letters_left, order_rule, settled, start_rule, starts, starts_at, untold_steps, with_due}
+use Rattle.storage_order.specs.Order.{entered, forced, is_next, next_actor, order_rule, settled, start_rule, starts, starts_at, untold_steps, with_due}
 use Rattle.storage_runs.proofs.Lines.{event_none, for_owed, one_taken, order_same, owed_stays, settled_same, yields_owed}
 use Rattle.storage_runs.specs.Runs.{StaysSo}
-use Rattle.trace_effects.specs.Effects.{effect}
+use Rattle.trace_effects.specs.Effects.{effect, letters_left}
 use Rattle.trace_rules.specs.Lines.{is_free, line_rule, owing}
 use Rattle.trace_rules.specs.Steps.{is_cut, is_due_event, is_line_of, is_nothing, lower, unless, yields_to_cut}
 

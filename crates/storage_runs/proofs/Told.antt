@@ -158,7 +158,7 @@ own_starts true true false a b = refl
 own_starts true false next a b = absurd (cc)
 own_starts true true true a b = absurd (cc)
 
-told_starts : (b : State) (actor : Letter) (item : Item) → b.owed ≡ Nothing → b.event ≡ Told actor → is_line_of actor (is_calm b.recovery) item ≡ true → is_of_next b actor item ≡ false → starts b item ≡ false
+pub told_starts : (b : State) (actor : Letter) (item : Item) → b.owed ≡ Nothing → b.event ≡ Told actor → is_line_of actor (is_calm b.recovery) item ≡ true → is_of_next b actor item ≡ false → starts b item ≡ false
 unfolding starts
 told_starts b actor item owed e line own =
     and_right (is_free b.owed) (starts_at b b.event item)

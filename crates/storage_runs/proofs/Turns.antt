@@ -16,13 +16,13 @@ use Rattle.storage_model.specs.declared.trace.Item.{Item}
 use Rattle.storage_model.specs.declared.trace.Item.TheVariants.{Turn}
 use Rattle.storage_order.specs.Accept.{accept_from}
 use Rattle.storage_order.specs.Events.{closed, end_rule, ended, ended_by, is_untold, rule_of_end}
-use Rattle.storage_order.specs.Order.{entered, engine_first, forced, is_of_next, left_behind, letters_left, order_rule, settled, start_rule, starts, starts_at, with_due}
+use Rattle.storage_order.specs.Order.{entered, engine_first, forced, is_of_next, left_behind, order_rule, settled, start_rule, starts, starts_at, with_due}
 use Rattle.storage_runs.proofs.Hushes.{engine_kept, rests}
 use Rattle.storage_runs.proofs.Lines.{event_none, one_taken}
 use Rattle.storage_runs.proofs.Mores.{no_step, start_none}
 use Rattle.storage_runs.specs.Laws.{StandsAt, rested}
 use Rattle.storage_runs.specs.Runs.{begun_next, is_shown, next_letter}
-use Rattle.trace_effects.specs.Effects.{after_turn, effect}
+use Rattle.trace_effects.specs.Effects.{after_turn, effect, letters_left}
 use Rattle.trace_rules.specs.Lines.{holds, is_free, line_rule, same_letter, turn_holds}
 use Rattle.trace_rules.specs.Steps.{event_rule, is_cut, is_line_of, is_nothing, lower}
 

@@ -5,3 +5,4 @@ pub mod Ranges
 pub mod Withins
 pub mod LineFacts
 pub mod Sounds
+pub mod Steps

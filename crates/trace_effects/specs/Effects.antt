@@ -1,9 +1,9 @@
 -- What each line of a trace does to the state.
-use Rattle.std.specs.Prelude.{ℕ, ◌+◌, ◌-◌, nat_lt, min, Bool, true, false, if◌then◌else◌, Option, Some, None, List, [], ◌∷◌, ◌++◌, fold, length, slice_index_or, slice_set}
+use Rattle.std.specs.Prelude.{ℕ, ◌+◌, ◌-◌, ◌&&◌, ◌||◌, nat_lt, min, not, Bool, true, false, if◌then◌else◌, Option, Some, None, List, [], ◌∷◌, ◌++◌, fold, length, slice_index_or, slice_set}
 use Rattle.storage_machine.specs.Commands.{due, is_calm}
 use Rattle.trace_effects.specs.Cuts.{all_epochs, epochs_with, is_deferred, used}
 use Rattle.storage_machine.specs.Cuts.{due_line, is_due, next_left}
-use Rattle.storage_machine.specs.Host.{has_work, is_silent, recovery_step, to_do}
+use Rattle.storage_machine.specs.Host.{has_work, is_silent, recovery_step, recovery_steps, to_do}
 use Rattle.storage_machine.specs.Jobs.{is_in_range, job_of}
 use Rattle.trace_rules.specs.Lines.{data_on, is_poll}
 use Rattle.trace_effects.specs.Phases.{after_keep, after_phase, with_kept}
@@ -50,6 +50,9 @@ begun_by s PowerActs = record s { event = if is_due s then Due else Told PowerAc
 
 unfoldable pub begun : State → Letter → State
 begun s letter = begun_by (record s { owed = Nothing }) letter
+
+abbrev pub letters_left : State → Bool
+letters_left s = nat_lt s.letters (length s.faults.turns)
 
 abbrev pub letters_used : State → ℕ
 letters_used s = min (s.letters + 1) (length s.faults.turns)
@@ -168,10 +171,26 @@ abbrev pub line_used : State → Event → Option ℕ
 line_used s Due = due_line s
 line_used s event = None
 
+-- an event of the engine's or the card's, which may have printed nothing
+abbrev pub is_quiet : Event → Bool
+is_quiet (Told EngineActs) = true
+is_quiet (Told CardActs) = true
+is_quiet event = false
+
+-- Where such an event was the last that a letter tells, and nothing is to do behind the silent steps of a recovery, the cut may be one of the last
+-- flush: then these steps were taken before it.
+abbrev pub is_last : State → Bool
+is_last s = is_quiet s.event && not (letters_left s || to_do (recovery_steps s))
+
+abbrev pub at_cut : State → State
+at_cut s = if is_last s then recovery_steps s else s
+
 abbrev pub first_cut : State → State
 first_cut s = over (record s {
+  slots = (at_cut s).slots;
+  recovery = (at_cut s).recovery;
   cuts = used s.cuts (line_used s s.event);
-  worked = to_do s;
+  worked = to_do (at_cut s);
   spent = 0;
   notice = false;
   count = 0;

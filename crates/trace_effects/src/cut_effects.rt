@@ -1,22 +1,23 @@
 // What a power cut, the lines after it and the end do.
-ghost use Rattle.std.specs.Prelude.{◌≡◌, ◌<◌, ◌+◌, ◌==◌, ◌&&◌, ℕ, nat_lt, min, length, IfOk, OnOk, OnErr};
+ghost use Rattle.std.specs.Prelude.{◌≡◌, ◌<◌, ◌+◌, ◌==◌, ◌&&◌, ℕ, nat_lt, min, not, length, IfOk, OnOk, OnErr};
 ghost use Rattle.std.specs.List.{list_any};
 ghost use Rattle.storage_model.specs.declared.trace.End.TheVariants.{Good};
 ghost use Rattle.trace_effects.specs.Cuts.{add_place, all_epochs, epochs_with, is_deferred, places_of, used};
 ghost use Rattle.storage_machine.specs.Cuts.{next_left};
-ghost use Rattle.trace_effects.specs.Effects.{after_cut, after_left, after_lost, after_off, after_on, first_cut, kept_at, left_from, left_on, line_used, powered, without_data};
+ghost use Rattle.storage_machine.specs.Host.{recovery_steps, to_do};
+ghost use Rattle.trace_effects.specs.Effects.{after_cut, after_left, after_lost, after_off, after_on, at_cut, first_cut, is_last, is_quiet, kept_at, left_from, left_on, line_used, powered, without_data};
 ghost use Rattle.storage_model.specs.Contents.{contents_now, mark_on};
 
-use crate::effects::over;
+use crate::effects::{letters_left, over};
 use crate::keeping::{copy_of, keep_marks, with_kept};
 use crate::lists::{place_of, put_in};
 use std::alloc::Global;
 use storage_machine::cuts::{due_line, next_left};
-use storage_machine::host::to_do;
+use storage_machine::host::{recovery_steps, to_do};
 use storage_machine::slots::{Change, change_slots, tag_with};
 use storage_machine::{EpochList, Event, FlagList, Owed, Recovery, State, Stop};
 use storage_model::{
-    Block, BlockList, Bytes, End, Job, Mark, MarkList, NoMemory, Put, Sequence, count_bars,
+    Block, BlockList, Bytes, End, Job, Letter, Mark, MarkList, NoMemory, Put, Sequence, count_bars,
     mix_allows,
 };
 
@@ -37,10 +38,52 @@ fn line_used(s: &State) -> Option<usize>
     }
 }
 
+fn is_quiet(event: &Event) -> bool
+    ensures { result ≡ is_quiet event.now }
+{
+    matches!(event, Event::Told(Letter::Engine | Letter::Card))
+}
+
+fn some_waits(waiting: &[bool]) -> bool
+    ensures { result ≡ list_any (λ waits. waits) waiting.now }
+{
+    waiting.iter().any(|waits| *waits)
+}
+
+// Whether nothing is to do behind the silent steps of a recovery.
+#[tactic(auto, unfolding(storage_machine::specs::Host::to_do, storage_machine::specs::Host::recovery_steps))]
+fn is_over(s: &State) -> bool
+    ensures { result ≡ not (to_do (recovery_steps s.now)) }
+{
+    match s.recovery {
+        Recovery::Calm => !to_do(s),
+        Recovery::Halted | Recovery::Cleared => false,
+        Recovery::Discarded | Recovery::Cleaned | Recovery::Resumed => {
+            !some_waits(s.waiting.as_slice())
+        }
+    }
+}
+
+fn is_last(s: &State) -> bool
+    ensures { result ≡ is_last s.now }
+{
+    is_quiet(&s.event) && !letters_left(s) && is_over(s)
+}
+
+// Takes those steps where the cut may be one of the last flush.
+fn at_cut(s: &mut State)
+    ensures { s.new ≡ at_cut s.old }
+{
+    if is_last(s) {
+        recovery_steps(s);
+    }
+}
+
 fn first_cut(s: &mut State)
     ensures { s.new ≡ first_cut s.old }
 {
     let line = line_used(s);
+    at_cut(s);
     s.worked = to_do(s);
     use_line(&mut s.cuts, line);
     s.spent = 0;

@@ -7,7 +7,7 @@ ghost use Rattle.storage_machine.specs.declared.state.Event.TheVariants.{Untold,
 ghost use Rattle.storage_machine.specs.declared.state.Owed.TheVariants.{Sectors};
 ghost use Rattle.storage_model.specs.declared.faults.Letter.TheVariants.{Host, Cut};
 ghost use Rattle.storage_machine.specs.declared.slots.Question.TheVariants.{Collected};
-ghost use Rattle.trace_effects.specs.Effects.{over, begun_by, begun, letters_used, after_turn, after_issue, after_params, addressed, after_address, words_used, after_poll, uses_word, named_more, after_bus, flash_stop, after_flash, after_irq, answers_left, after_answer, sectors_from, after_read, shown_on, after_sector, after_fault, with_held, waiting_with, after_recover, after_discard};
+ghost use Rattle.trace_effects.specs.Effects.{over, begun_by, begun, letters_left, letters_used, after_turn, after_issue, after_params, addressed, after_address, words_used, after_poll, uses_word, named_more, after_bus, flash_stop, after_flash, after_irq, answers_left, after_answer, sectors_from, after_read, shown_on, after_sector, after_fault, with_held, waiting_with, after_recover, after_discard};
 
 use crate::lists::{place_of, put_in};
 use std::alloc::Global;
@@ -77,6 +77,13 @@ pub fn begin(s: &mut State, letter: Letter)
 {
     s.owed = Owed::Nothing;
     begin_by(s, letter);
+}
+
+/// Whether letters of the fault text are left.
+pub fn letters_left(s: &State) -> bool
+    ensures { result ≡ letters_left s.now }
+{
+    s.letters < s.faults.turns.len()
 }
 
 fn letters_used(s: &State) -> usize

@@ -7,3 +7,5 @@ mod effects;
 mod keeping;
 mod lists;
 mod phase_effects;
+
+pub use effects::letters_left;
