@@ -74,7 +74,7 @@ module _ (s : State) (p : PathState) (o : OrderState) (a a' : ArrayState) (card 
   q = set_anew p card script
 
   last_none : card.store.cache.last ≡ 0
-  last_none = ap (λ cache. cache.last) anew.cache
+  last_none = anew.last
 
   pub state_is : state_of q (order_of (first_cut s)) (context_of s after) ≡ t
   unfolding state_of

@@ -21,7 +21,7 @@ use Rattle.storage_model.specs.declared.trace.Item.TheVariants.{On}
 use Rattle.storage_order.specs.Events.{More}
 use Rattle.trace_effects.specs.Effects.{first_cut}
 use Rattle.dark_laws.proofs.Anew.{agrees_anew, context_of, gone, lit, state_is}
-use Rattle.dark_laws.proofs.Held.{cut_first, cut_is}
+use Rattle.dark_laws.proofs.Held.{cut_first, cut_is, slots_kept}
 use Rattle.dark_laws.proofs.Pages.{pages_left}
 use Rattle.dark_laws.proofs.TiedAnew.{tied_anew}
 use Rattle.dark_laws.specs.Anew.{IsBack, IsSetAnew, Leads, Outlasts, back_lines, set_anew}
@@ -30,14 +30,17 @@ use Rattle.world_state.specs.Reading.{state_of}
 use Rattle.world_state.specs.Ties.{AreTied}
 use Rattle.world_state.specs.Told.{ComesBack, IsLosing, IsUnjudged}
 
--- the slots have the requests that the driver holds
-pub ids_held : (s : State) (p : PathState) (o : OrderState) (a : ArrayState) → IsSound p.driver.requests → IsLosing s p o a → p.driver.requests.holders ≡ ids_in s.slots
-ids_held s p o a sound losing =
+-- the slots have the requests that the driver holds, and still at the cut
+ids_before : (s : State) (p : PathState) (o : OrderState) (a : ArrayState) → IsSound p.driver.requests → IsLosing s p o a → p.driver.requests.holders ≡ ids_in s.slots
+ids_before s p o a sound losing =
     let long = losing.slots in
     let held = sound.holders in
     let size : length (ids_in s.slots) ≡ length s.slots = length-map s.slots id_in in
     ext_get_or None p.driver.requests.holders (ids_in s.slots) (omega (arith, long, held, size))
     (λ tag few. sym (losing.issued tag (omega (arith, few, held))) ∙ sym (get_or-map id_in s.slots tag None))
+
+pub ids_held : (s : State) (p : PathState) (o : OrderState) (a : ArrayState) → IsSound p.driver.requests → IsLosing s p o a → p.driver.requests.holders ≡ ids_in (first_cut s).slots
+ids_held s p o a sound losing = ids_before s p o a sound losing ∙ ap (λ slots. ids_in slots) (sym (slots_kept s p o a sound losing))
 
 -- where nothing was judged, the state behind the last line is the same with and without puts
 last_by : (s : State) (p : PathState) (after : List Block) (b : Bool) → is_none (next_left s.pend 0) ≡ b → IsUnjudged s → after_power (gone s p) after ≡ lit s p after

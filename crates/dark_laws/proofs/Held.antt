@@ -1,16 +1,21 @@
 -- The requests that are held when power is lost: each stands on its slot, and none of them waits with the driver.
-use Rattle.std.proofs.Common.{◌≡◌, ◌≢◌, ◌∙◌, ℕ, suc, ◌+◌, ◌-◌, inl, inr, Bool, true, false, Option, Some, None, IfSome, List, [], ◌∷◌, fold, length, get_or, slice_set, slice_index_or, refl, ap, sym, subst, arith}
+use Rattle.std.proofs.Common.{◌≡◌, ◌≢◌, ◌∙◌, ℕ, zero, suc, ◌+◌, ◌-◌, ◌<◌, ◌||◌, inl, inr, Bool, true, false, cond, not, Option, Some, None, IfSome, List, [], ◌∷◌, fold, length, get_or, replicate, slice_set, slice_index_or, refl, ap, sym, subst, arith}
+use Rattle.std.specs.List.{list_any}
 use Rattle.std.specs.Prelude.{option_map}
-use Rattle.std.proofs.lemmas.Bool.{cases_lt}
-use Rattle.std.proofs.lemmas.List.{get_or_past, get_or-set_other}
-use Rattle.storage_machine.specs.Slots.{asks_of, id_of, slot_at}
+use Rattle.std.proofs.lemmas.Bool.{and_parts, cases_lt, or_parts}
+use Rattle.std.proofs.lemmas.List.{ext_get_or, get_or-replicate, get_or-set_same, get_or_past, get_or-set_other, length-set}
+use Rattle.storage_machine.specs.Commands.{is_calm}
+use Rattle.storage_machine.specs.Host.{recovery_steps, recovery_steps_at, to_do}
+use Rattle.storage_machine.specs.Slots.{asks_of, has, id_of, no_tasks, slot_at}
 use Rattle.storage_machine.specs.declared.slots.Question.TheVariants.{Issued as IsIssued}
 use Rattle.storage_machine.specs.declared.state.Owed.{Owed}
 use Rattle.storage_machine.specs.declared.state.Owed.TheVariants.{Dark}
+use Rattle.storage_machine.specs.declared.state.Recovery.{Recovery}
+use Rattle.storage_machine.specs.declared.state.Recovery.TheVariants.{Calm, Halted, Cleared, Discarded, Cleaned, Resumed}
 use Rattle.storage_machine.specs.declared.state.State.{State}
 use Rattle.storage_machine.specs.declared.state.Task.{Task}
 use Rattle.storage_model.specs.declared.trace.Item.TheVariants.{Cut}
-use Rattle.trace_effects.specs.Effects.{after_cut, effect, first_cut}
+use Rattle.trace_effects.specs.Effects.{after_cut, effect, first_cut, is_last, is_quiet, letters_left}
 use Rattle.array_edge.specs.Array.{ArrayState}
 use Rattle.cut_laws.specs.Laws.{IsCut, IsHeldBy}
 use Rattle.cut_order.specs.Order.{OrderState}
@@ -34,7 +39,73 @@ cut_by s owed is lit = rw is refl
 pub cut_is : (s : State) → is_dark s.owed ≡ false → effect s Cut ≡ first_cut s
 cut_is s lit = cut_by s s.owed refl lit
 
+-- where the cut may be one of the last flush, nothing is to do behind the silent steps of a recovery
+
+off : (b : Bool) → not b ≡ true → b ≡ false
+off true is = absurd (cc)
+off false is = refl
+
+nothing_after : (s : State) → is_last s ≡ true → to_do (recovery_steps s) ≡ false
+nothing_after s last =
+    let quiet = and_parts (is_quiet s.event) (not (letters_left s || to_do (recovery_steps s))) last in
+    (or_parts (letters_left s) (to_do (recovery_steps s)) (off (letters_left s || to_do (recovery_steps s)) quiet.1)).1
+
+work_by : (s : State) (last : Bool) → is_last s ≡ last → to_do (cond last (recovery_steps s) s) ≡ true → to_do s ≡ true
+work_by s true is work = let none = nothing_after s is in absurd (cc (none, work))
+work_by s false is work = work
+
+pub work_before : (s : State) → (first_cut s).worked ≡ true → to_do s ≡ true
+work_before s work = work_by s (is_last s) refl work
+
+waiting_steps : (s : State) (state : Recovery) → (recovery_steps_at s state).waiting ≡ s.waiting
+waiting_steps s Calm = refl
+waiting_steps s Halted = refl
+waiting_steps s Cleared = refl
+waiting_steps s Discarded = refl
+waiting_steps s Cleaned = refl
+waiting_steps s Resumed = refl
+
+none_waits : (s : State) → to_do (recovery_steps s) ≡ false → list_any (λ waits. waits) s.waiting ≡ false
+unfolding to_do recovery_steps
+none_waits s none =
+    let t : State = recovery_steps_at s s.recovery in
+    sym (ap (λ waiting. list_any (λ waits. waits) waiting) (waiting_steps s s.recovery))
+    ∙ (or_parts (list_any (λ waits. waits) t.waiting) (has IsIssued t.slots || not (is_calm t.recovery)) none).0
+
 -- each held request waits again, and no other
+
+set_waits : (waiting : List Bool) (n place : ℕ) → slice_index_or waiting place false ≡ true → slice_index_or (slice_set waiting n true) place false ≡ true
+set_waits [] n place is = is
+set_waits (b ∷ waiting) zero zero is = refl
+set_waits (b ∷ waiting) zero (suc place) is = is
+set_waits (b ∷ waiting) (suc n) zero is = is
+set_waits (b ∷ waiting) (suc n) (suc place) is = set_waits waiting n place is
+
+still_waits : (waiting : List Bool) (holders : List (Option ℕ)) (place : ℕ) → slice_index_or waiting place false ≡ true → slice_index_or (fold waits_again waiting holders) place false ≡ true
+still_waits waiting [] place is = is
+still_waits waiting (None ∷ holders) place is = still_waits waiting holders place is
+still_waits waiting (Some id ∷ holders) place is = still_waits (slice_set waiting (id - 1) true) holders place (set_waits waiting (id - 1) place is)
+
+held_waits : (waiting : List Bool) (holders : List (Option ℕ)) (tag id : ℕ) → get_or holders tag None ≡ Some id → id - 1 < length waiting → slice_index_or (fold waits_again waiting holders) (id - 1) false ≡ true
+held_waits waiting [] tag id at few = absurd (cc (at))
+held_waits waiting (None ∷ holders) zero id at few = absurd (cc (at))
+held_waits waiting (Some other ∷ holders) zero id at few =
+    let same : other ≡ id = cc in
+    still_waits (slice_set waiting (other - 1) true) holders (id - 1)
+    (subst (λ n. slice_index_or (slice_set waiting (n - 1) true) (id - 1) false ≡ true) (sym same) (get_or-set_same waiting (id - 1) true false few))
+held_waits waiting (None ∷ holders) (suc tag) id at few = held_waits waiting holders tag id at few
+held_waits waiting (Some other ∷ holders) (suc tag) id at few =
+    let size = length-set waiting (other - 1) true in
+    held_waits (slice_set waiting (other - 1) true) holders tag id at (omega (arith, few, size))
+
+waits_at : (waiting : List Bool) (place : ℕ) → list_any (λ waits. waits) waiting ≡ false → slice_index_or waiting place false ≡ false
+waits_at [] place none = refl
+waits_at (true ∷ waiting) place none = absurd (cc (none))
+waits_at (false ∷ waiting) zero none = refl
+waits_at (false ∷ waiting) (suc place) none = waits_at waiting place none
+
+abbrev no_task : Option Task
+no_task = None
 
 pub others_wait : (waiting : List Bool) (holders : List (Option ℕ)) (place : ℕ) → ((tag id : ℕ) → get_or holders tag None ≡ Some id → id - 1 ≢ place)
     → slice_index_or (fold waits_again waiting holders) place false ≡ slice_index_or waiting place false
@@ -92,8 +163,55 @@ module _ (s : State) (p : PathState) (o : OrderState) (a : ArrayState) (sound : 
     | inr past ↦ let long = losing.places in get_or_past s.data tag [] (omega (arith, past, long))
   ]
 
-  pub cut_first : IsCut p.driver.requests.waiting (first_cut s)
-  cut_first = record {
+  -- where nothing is to do behind the silent steps of a recovery, they take no task from its slot: none was held
+  none_held : is_recovering p.driver.recovery ≡ true → list_any (λ waits. waits) s.waiting ≡ false → (tag : ℕ) (found : Option ℕ) → holder p tag ≡ found → found ≡ None
+  none_held on none tag None at = refl
+  none_held on none tag (Some id) at =
+      let held : IsHeld p.driver.requests.waiting p.driver.requests.holders tag id = sound.held tag id at in
+      let above = held.above in
+      let below = held.below in
+      let few : id - 1 < length p.driver.requests.waiting = omega (arith, above, below) in
+      let again : waiting_of p.driver ≡ fold waits_again p.driver.requests.waiting p.driver.requests.holders =
+      ap (λ b. cond b (fold waits_again p.driver.requests.waiting p.driver.requests.holders) p.driver.requests.waiting) on in
+      let waits : slice_index_or s.waiting (id - 1) false ≡ true =
+      ap (λ xs. slice_index_or xs (id - 1) false) (losing.waiting ∙ again)
+      ∙ held_waits p.driver.requests.waiting p.driver.requests.holders tag id at few in
+      let not_so = waits_at s.waiting (id - 1) none in
+      absurd (cc (waits, not_so))
+
+  slot_none : (slot : Option Task) → option_map (λ (task : Task). task.id) slot ≡ None → slot ≡ None
+  slot_none None is = refl
+  slot_none (Some task) is = absurd (cc (is))
+
+  slots_none : is_recovering p.driver.recovery ≡ true → list_any (λ waits. waits) s.waiting ≡ false → no_tasks ≡ s.slots
+  unfolding no_tasks
+  slots_none on none =
+      let long = losing.slots in
+      let size : length (replicate 32 no_task) ≡ 32 = refl in
+      ext_get_or None (replicate 32 no_task) s.slots (sym long)
+      (λ tag few.
+      let within : tag < 32 = omega (arith, few, size) in
+      get_or-replicate 32 tag no_task None within
+      ∙ sym (slot_none (slot_at s.slots tag) (losing.issued tag within ∙ none_held on none tag (holder p tag) refl)))
+
+  steps_keep : list_any (λ waits. waits) s.waiting ≡ false → (state : Recovery) → is_recovering p.driver.recovery ≡ not (is_calm state) → (recovery_steps_at s state).slots ≡ s.slots
+  steps_keep none Calm is = refl
+  steps_keep none Halted is = refl
+  steps_keep none Cleared is = refl
+  steps_keep none Discarded is = slots_none is none
+  steps_keep none Cleaned is = slots_none is none
+  steps_keep none Resumed is = slots_none is none
+
+  kept_by : (last : Bool) → is_last s ≡ last → (cond last (recovery_steps s) s).slots ≡ s.slots
+  unfolding recovery_steps
+  kept_by true is = steps_keep (none_waits s (nothing_after s is)) s.recovery losing.recovery
+  kept_by false is = refl
+
+  pub slots_kept : (first_cut s).slots ≡ s.slots
+  slots_kept = kept_by (is_last s) refl
+
+  cut_kept : IsCut p.driver.requests.waiting (record (first_cut s) { slots = s.slots })
+  cut_kept = record {
     owed = refl;
     event = refl;
     slots = losing.slots;
@@ -106,6 +224,9 @@ module _ (s : State) (p : PathState) (o : OrderState) (a : ArrayState) (sound : 
     kept = losing.places;
     empty = no_data;
   }
+
+  pub cut_first : IsCut p.driver.requests.waiting (first_cut s)
+  cut_first = subst (λ slots. IsCut p.driver.requests.waiting (record (first_cut s) { slots = slots })) (sym slots_kept) cut_kept
 
 pub cut_here : (s : State) (p : PathState) (o : OrderState) (a : ArrayState) → IsCutHere s p o a
 cut_here s p o a sound losing = subst (IsCut p.driver.requests.waiting) (sym (cut_is s losing.unjudged.lit)) (cut_first s p o a sound losing)

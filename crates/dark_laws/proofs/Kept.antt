@@ -25,7 +25,7 @@ use Rattle.trace_effects.specs.Cuts.{is_deferred, places_of}
 use Rattle.trace_effects.specs.Effects.{effect, first_cut}
 use Rattle.dark_laws.proofs.Anew.{gone}
 use Rattle.dark_laws.proofs.Back.{all_gone, can, loses, lost}
-use Rattle.dark_laws.proofs.Held.{cut_is}
+use Rattle.dark_laws.proofs.Held.{cut_is, work_before}
 use Rattle.dark_laws.specs.Anew.{Leads, Outlasts}
 use Rattle.dark_laws.specs.Kept.{IsLeftSo, LeavesSo}
 use Rattle.world_state.specs.Path.{PathState}
@@ -87,7 +87,7 @@ module _ (s : State) (p : PathState) (o : OrderState) (a : ArrayState) (out : Ou
       let three = and_parts (not s.kept) (d.worked && nat_lt (length (places_of s.pend)) s.plan.lines) two.1 in
       let four = and_parts d.worked (nat_lt (length (places_of s.pend)) s.plan.lines) three.1 in
       kept_by (shown_by a) s.base after leads.shows
-      (losing.deferred (not_true s.plan.through one.0) (not_true s.staged two.0) (not_true s.kept three.0) (ltb-true (length (places_of s.pend)) s.plan.lines four.1))
+      (losing.deferred (work_before s four.0) (not_true s.plan.through one.0) (not_true s.staged two.0) (not_true s.kept three.0) (ltb-true (length (places_of s.pend)) s.plan.lines four.1))
 
   some_left : (k n : ℕ) → has_put k s.pend ≡ true → n ≤ length after → StaysSo on (lines_below s.pend after n)
   some_left k n put few =

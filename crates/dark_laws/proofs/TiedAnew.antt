@@ -137,14 +137,14 @@ card_anew p card a' out anew =
     let depth : card.depth ≡ p.card.depth = ap (λ c. c.depth) anew.card in
     let lines : card.lines ≡ p.card.lines = ap (λ c. c.lines) anew.card in
     let through : card.through ≡ p.card.through = ap (λ c. c.through) anew.card in
-    let last : card.store.cache.last ≡ 0 = ap (λ cache. cache.last) anew.cache in
+    let last = anew.last in
     record {
       depth = depth ∙ out.depth;
       lines = lines ∙ out.lines;
       through = through ∙ out.through;
       csd = ap (λ c. c.csd) anew.card ∙ csd_as (sectors card) depth lines through;
       places = ap (λ c. length c.queue.slots) anew.card ∙ length-replicate p.card.depth None ∙ sym depth;
-      room = ap (λ cache. cache.room) anew.cache ∙ out.room ∙ sym lines;
+      room = anew.room ∙ out.room ∙ sym lines;
       few = sectors_few card.store.known anew.store.most;
       epoch = omega (arith, last);
     }

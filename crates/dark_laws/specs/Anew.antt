@@ -43,10 +43,11 @@ pub record IsSameScript (old new : Script) : Type 0 where
   pub used : new.used ≡ old.used
   pub sent : new.sent ≡ old.sent
 
--- the card is set up anew, with an empty cache, and what its image shows is kept
+-- the card is set up anew, in its first epoch, and what its image shows is kept
 pub record IsCardAnew (old new : CardState) (a : ArrayState) : Type 0 where
   pub card : new ≡ record (idle_card old.depth old.lines old.through new.store) { csd = card_set_up old (sectors new) }
-  pub cache : new.store.cache ≡ record old.store.cache { lines = []; last = 0 }
+  pub room : new.store.cache.room ≡ old.store.cache.room
+  pub last : new.store.cache.last ≡ 0
   pub store : IsStore new.store
   pub stands : IfSome (shown_by a) (λ shown. StoreStands (record { base = shown; pend = [] }) new.store a)
 

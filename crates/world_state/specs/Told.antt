@@ -1,9 +1,11 @@
 -- What an event tells: its lines take the storage machine from each state that the path stood for to one that it stands for then.
-use Rattle.std.specs.Prelude.{◌≡◌, ◌<◌, ◌≤◌, ℕ, Bool, true, false, All, length, List, [], ◌∷◌, Option, None, Some, IfSome, is_some, option_map, slice_index_or}
+use Rattle.std.specs.Prelude.{◌≡◌, ◌<◌, ◌≤◌, ℕ, Bool, true, false, not, All, length, List, [], ◌∷◌, Option, None, Some, IfSome, is_some, option_map, slice_index_or}
 use Rattle.storage_model.specs.Contents.{IsWithin}
 use Rattle.storage_model.specs.declared.faults.Letter.{Letter}
 use Rattle.storage_model.specs.declared.trace.Item.{Item}
 use Rattle.storage_model.specs.declared.trace.Item.TheVariants.{Cut}
+use Rattle.storage_machine.specs.Commands.{is_calm}
+use Rattle.storage_machine.specs.Host.{to_do}
 use Rattle.storage_machine.specs.Slots.{asks_of, slot_at}
 use Rattle.storage_machine.specs.declared.slots.Question.TheVariants.{Issued}
 use Rattle.storage_machine.specs.declared.state.Owed.{Owed}
@@ -16,6 +18,7 @@ use Rattle.array_edge.specs.Array.{ArrayState}
 use Rattle.card_store.specs.Store.{Stands as StoreStands}
 use Rattle.intent_store.specs.Intent.{shown_by}
 use Rattle.cut_order.specs.Order.{OrderState, order_of}
+use Rattle.drv_core.specs.State.{is_recovering}
 use Rattle.drv_jobs.specs.Changes.{faults_of}
 use Rattle.drv_jobs.specs.Standings.{is_waiting}
 use Rattle.world_state.specs.Path.{PathState, holder, plan_of}
@@ -64,7 +67,8 @@ pub record IsLosing (s : State) (p : PathState) (o : OrderState) (a : ArrayState
   pub within : All (IsWithin s.base) s.pend
   pub few : length s.base ≤ 65536
   pub unjudged : IsUnjudged s
-  pub deferred : s.plan.through ≡ false → s.staged ≡ false → s.kept ≡ false → length (places_of s.pend) < s.plan.lines → IfSome (shown_by a) (λ pages. pages ≡ s.base)
+  pub recovery : is_recovering p.driver.recovery ≡ not (is_calm s.recovery)
+  pub deferred : to_do s ≡ true → s.plan.through ≡ false → s.staged ≡ false → s.kept ≡ false → length (places_of s.pend) < s.plan.lines → IfSome (shown_by a) (λ pages. pages ≡ s.base)
 
 -- a cut may be the event's next line
 abbrev pub CutFollows : List Item → State → Type 0
