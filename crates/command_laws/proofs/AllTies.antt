@@ -48,7 +48,7 @@ address_power : (p : PathState) (a : ArrayState) (p' : PathState) (a' : ArraySta
 address_power p a p' a' did phase e slot is t n true far = past_cases Lit p a p' a' did phase e slot is t n far (λ _ _. refl) (λ _ _. refl) (λ _ _. refl)
 address_power p a p' a' did phase e slot is t n false near = sending_cases Lit p a p' a' did phase e slot is t n near (λ _ _. refl) (λ _ _. refl) (λ _ _. refl)
 
-idle_did : (p : PathState) (a : ArrayState) (p' : PathState) (a' : ArrayState) (did : Did) (phase : Option Phase) (e : EngineEvent p a p' a' did phase)
+pub idle_did : (p : PathState) (a : ArrayState) (p' : PathState) (a' : ArrayState) (did : Did) (phase : Option Phase) (e : EngineEvent p a p' a' did phase)
     → (e.event.acts.due ≡ Rest) ⊎ (e.event.acts.due ≡ Tick) → AreTied p → did ≡ DidNothing
 idle_did p a p' a' did phase e idle t =
     e.idle.1 ((idle_exactly (remembered p.engine.held p.regs) p.regs p.memory e.event.acts.due t.regs.ring e.event.acts.is_due).0 idle)

@@ -1,6 +1,6 @@
 -- The loss of power in a data phase: the phase's line with the blocks that moved, and the state that the cut comes to.
 use Rattle.std.proofs.Common.{◌≡◌, ◌<◌, ◌≤◌, ◌+◌, ◌==◌, ◌&&◌, ℕ, refl, sym, ◌∙◌, ap, subst, arith, inl, inr, append-nil, zero-add}
-use Rattle.std.specs.Prelude.{Bool, true, false, cond, min, Option, Some, None, IfSome, is_none, is_some, length, List, [], ◌∷◌, unwrap_or, slice_index_or}
+use Rattle.std.specs.Prelude.{Bool, true, false, cond, min, not, Option, Some, None, IfSome, is_none, is_some, length, List, [], ◌∷◌, unwrap_or, slice_index_or}
 use Rattle.std.specs.Option.{option_map}
 use Rattle.std.proofs.lemmas.Bool.{cases_lt}
 use Rattle.std.proofs.lemmas.List.{get_or_past}
@@ -24,7 +24,9 @@ use Rattle.cq_schedule.specs.declared.rules.Due.{Due}
 use Rattle.cut_order.specs.Order.{OrderState, order_of}
 use Rattle.drv_core.specs.State.{is_recovering}
 use Rattle.drv_jobs.specs.Changes.{faults_of}
-use Rattle.storage_machine.specs.Commands.{due, hit, is_gone}
+use Rattle.drv_recover.specs.declared.recovery.RecoveryState.{RecoveryState}
+use Rattle.drv_recover.specs.declared.recovery.RecoveryState.TheVariants as driver
+use Rattle.storage_machine.specs.Commands.{due, hit, is_calm, is_gone}
 use Rattle.storage_machine.specs.Slots.{asks_of, slot_at}
 use Rattle.storage_machine.specs.declared.slots.Question.TheVariants.{Issued}
 use Rattle.storage_machine.specs.declared.commands.DueCommand.TheVariants.{Execute}
@@ -53,7 +55,7 @@ use Rattle.trace_rules.specs.Phases.{is_whole, owed_by, tag_due}
 use Rattle.world_state.specs.Engine.{EngineEvent, engine_lines, phase_line_of}
 use Rattle.world_state.specs.Laws.{StateLaws, command_due}
 use Rattle.world_state.specs.Path.{PathState, holder, is_busy, job, plan_of, under_way}
-use Rattle.world_state.specs.Reading.{Context, data_by, data_of, is_done, standing_at, standing_of, state_of, stop_by, stop_of, task_at, tasks_of, waiting_of}
+use Rattle.world_state.specs.Reading.{Context, data_by, data_of, is_done, recovery_of, standing_at, standing_of, state_of, stop_by, stop_of, task_at, tasks_of, waiting_of}
 use Rattle.world_state.specs.Stands.{Agrees, AreNamed, named_at, names}
 use Rattle.world_state.specs.Ties.{AreTied}
 use Rattle.world_state.specs.Told.{Darkened, IsLosing, is_dark}
@@ -191,6 +193,18 @@ pub staged_is : (p : PathState) (o : OrderState) (k : Context) → (state_of p o
 unfolding state_of
 staged_is p o k = refl
 
+recovers_by : (state : RecoveryState) → is_recovering state ≡ not (is_calm (recovery_of state))
+recovers_by driver.Calm = refl
+recovers_by driver.Halted = refl
+recovers_by driver.Cleared = refl
+recovers_by driver.Discarded = refl
+recovers_by driver.Cleaned = refl
+recovers_by driver.Resumed = refl
+
+pub recovers_is : (p : PathState) (o : OrderState) (k : Context) → is_recovering p.driver.recovery ≡ not (is_calm (state_of p o k).recovery)
+unfolding state_of
+recovers_is p o k = recovers_by p.driver.recovery
+
 pub record IsFresh (s : State) : Type 0 where
   pub deferred : s.deferred ≡ false
   pub lefts : s.lefts ≡ []
@@ -248,7 +262,8 @@ losing p a slot i w x y z g card s a' o k owed t st h cause lit =
       within = after.within;
       few = after.few;
       unjudged = record { lit = lit; deferred = fresh.deferred; lefts = fresh.lefts; epochs = fresh.epochs };
-      deferred = λ through staged kept few.
+      recovery = recovers_is p o k;
+      deferred = λ work through staged kept few.
           after.deferred (sym (ap (λ (v : Plan). v.through) (plan_is p o k)) ∙ through) (sym (staged_is p o k) ∙ staged) kept
           (subst (λ v. length (places_of v.pend) < (plan_of p).lines) (sym bare)
           (subst (λ (v : Plan). length (places_of (pend_after b (job p i.id) i.h.moved false)) < v.lines) (plan_is p o k) few));

@@ -26,7 +26,7 @@ use Rattle.world_state.specs.Path.{PathState, holder, job, plan_of}
 use Rattle.world_state.specs.Reading.{Context, standing_at, state_of, stop_by, stop_of}
 use Rattle.world_state.specs.Stands.{Agrees, named_at}
 use Rattle.world_state.specs.Told.{IsLosing, is_dark}
-use Rattle.phase_laws.proofs.Darks.{DarkensSo, all_issued, cut_next, dark_named, data_long, faults_bus, faults_ready, fresh_is, ids_back, names_are, order_is, slot_so, slots_long, staged_is, started_at, vacant_data, waiting_is, words_are}
+use Rattle.phase_laws.proofs.Darks.{DarkensSo, all_issued, cut_next, dark_named, data_long, faults_bus, faults_ready, fresh_is, ids_back, names_are, order_is, recovers_is, slot_so, slots_long, staged_is, started_at, vacant_data, waiting_is, words_are}
 use Rattle.phase_laws.proofs.DirectLeft.{contents_with}
 use Rattle.phase_laws.proofs.DirectStops.{DirectHalt, direct_agrees, direct_line, running_so}
 use Rattle.phase_laws.proofs.Directs.{InService}
@@ -70,7 +70,8 @@ direct_losing p a slot i w x y z g card s a' count kept kind o k owed st h cause
       within = after.within;
       few = after.few;
       unjudged = record { lit = lit; deferred = fresh.deferred; lefts = fresh.lefts; epochs = fresh.epochs };
-      deferred = λ through staged free few.
+      recovery = recovers_is p o k;
+      deferred = λ work through staged free few.
           after.deferred (sym (ap (λ (v : Plan). v.through) (plan_is p o k)) ∙ through) (sym (staged_is p o k) ∙ staged) free
           (subst (λ v. length (places_of v.pend) < (plan_of p).lines) (sym bare)
           (subst (λ (v : Plan). length (places_of (pend_after b (job p i.id) count kept)) < v.lines) (plan_is p o k) few));

@@ -1,16 +1,16 @@
-mod Dues
+pub mod Dues
 mod SetUps
 mod Helds
 mod Parts
 mod Tags
-mod Endings
-mod Crossings
-mod Events
+pub mod Endings
+pub mod Crossings
+pub mod Events
 mod Jobs
-mod Blocks
+pub mod Blocks
 mod Dones
-mod Closes
-mod Directs
+pub mod Closes
+pub mod Directs
 mod Ties
 mod Passing
 mod Moves

@@ -1,15 +1,15 @@
 mod Bits
-mod Searches
-mod Tags
-mod Ringing
-mod Tasks
+pub mod Searches
+pub mod Tags
+pub mod Ringing
+pub mod Tasks
 mod Bars
 mod Ready
 mod Dues
-mod Commands
+pub mod Commands
 mod Faults
-mod ReadOff
+pub mod ReadOff
 mod EngineLaws
 mod Notices
-mod Issues
+pub mod Issues
 mod HostWork

@@ -1,0 +1,13 @@
+pub mod Unbarred
+pub mod Lines
+pub mod Phases
+pub mod Nears
+pub mod Finds
+pub mod Ways
+pub mod Now
+pub mod Whole
+pub mod Singles
+pub mod Engines
+pub mod Answers
+pub mod Hosts
+pub mod Cards

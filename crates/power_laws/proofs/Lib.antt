@@ -1,0 +1,10 @@
+mod Pages
+mod Stored
+mod UnderWay
+mod PhaseEnds
+mod ReadOff
+mod Losing
+mod Darks
+mod CardEvents
+mod FlushEvents
+mod CutLines

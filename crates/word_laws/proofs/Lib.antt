@@ -1,0 +1,4 @@
+pub mod Stops
+pub mod Queued
+pub mod Phases
+pub mod All

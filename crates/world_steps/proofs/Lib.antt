@@ -1,0 +1,13 @@
+mod Counts
+mod ToDo
+mod ReadOff
+mod Dues
+mod Begins
+mod Keeps
+mod Numbers
+mod Prompts
+mod HostPrompts
+mod OwnLines
+mod Yielding
+mod Executes
+mod EngineYields
