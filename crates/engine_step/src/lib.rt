@@ -5,4 +5,4 @@ mod event;
 mod lines;
 
 pub use event::{EngineTold, engine_event};
-pub use lines::engine_lines;
+pub use lines::{engine_lines, phase_line};

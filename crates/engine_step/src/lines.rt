@@ -59,8 +59,8 @@ fn command_line(path: &Path, command: &Command, named: Option<u8>) -> Option<Ite
     }
 }
 
-// The line of a phase that ended, where one did.
-fn phase_line(path: &Path, phase: &Option<Phase>) -> Option<Item>
+/// The line of a phase that ended, where one did.
+pub fn phase_line(path: &Path, phase: &Option<Phase>) -> Option<Item>
     ensures { (p : PathState) → path.now.driver ≡ p.driver → line_in result ≡ phase_line_of p path.now phase.now }
 {
     match phase {

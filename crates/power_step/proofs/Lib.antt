@@ -1,0 +1,13 @@
+pub mod Taking
+pub mod Counting
+pub mod Losing
+pub mod Openings
+pub mod Lefts
+pub mod Reading
+pub mod Sectors
+pub mod Staying
+pub mod Darks
+pub mod Backs
+pub mod Noting
+pub mod Returning
+pub mod Phases

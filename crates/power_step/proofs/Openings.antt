@@ -1,0 +1,114 @@
+-- The lines of the openings behind a cut.
+use Rattle.std.proofs.Common.{◌≡◌, ◌∙◌, ℕ, ◌+◌, ◌<◌, ◌≤◌, ◌⊎◌, ◌++◌, inl, inr, true, List, [], ◌∷◌, Option, Result, Ok, Err, is_some, refl, sym, subst, arith}
+use Rattle.std.proofs.lemmas.Bool.{le-leb}
+use Rattle.io_edge.specs.Sink.{Joins}
+use Rattle.storage_model.specs.declared.ends.Halt.{Halt}
+use Rattle.storage_model.specs.declared.ends.Halt.TheVariants.{SinkFailed, OpenFault, BadImage as BadPages}
+use Rattle.storage_model.specs.declared.trace.End.TheVariants.{Fault, Dead, Image}
+use Rattle.storage_model.specs.declared.trace.Item.{Item}
+use Rattle.storage_model.specs.declared.trace.Item.TheVariants.{Cut, Off}
+use Rattle.array_edge.specs.Array.{ArrayState}
+use Rattle.intent_store.specs.Intent.{StartEnds, shown_by}
+use Rattle.intent_store.specs.declared.ends.StartEnd.{StartEnd}
+use Rattle.intent_store.specs.declared.ends.StartEnd.TheVariants.{Flash, PowerLost, BadImage}
+use Rattle.card_core.specs.Card.{CardState}
+use Rattle.cut_laws.specs.Laws.{further_cuts}
+use Rattle.trace_print.proofs.Joined.{taken_behind}
+use Rattle.trace_print.specs.Prints.{Takes, halt_faults}
+use Rattle.trace_text.specs.Trace.{items_text}
+use Rattle.power_step.specs.Cut.{HaltsFor, IsKept, OpensAgain, failed_line}
+use Rattle.power_step.specs.Wrote.{TakesPart}
+use Rattle.power_step.proofs.Counting.{fault_once, later_both, later_same, rose_none, rose_once, rose_stays}
+use Rattle.power_step.proofs.Taking.{part_next, part_of_one}
+
+-- before the first
+pub kept_first : (a : ArrayState) → IsKept 0 0 a a
+kept_first a = record {
+  shown = refl;
+  tells = refl;
+  later_faults = later_same a.faults;
+  later_cuts = later_same a.cuts;
+  cut = rose_none a.cuts a.cuts (later_same a.cuts);
+  failed = rose_none a.faults a.faults (later_same a.faults);
+}
+
+module _ (cuts : ℕ) (a am a' : ArrayState) (kept : IsKept cuts 0 a am) (shown : shown_by a' ≡ shown_by am) where
+  -- one that was cut
+  pub kept_cut : {T : Type 0} → StartEnds {T = T} am a' (Err PowerLost) → IsKept (cuts + 1) 0 a a'
+  kept_cut ends = record {
+    shown = shown ∙ kept.shown;
+    tells = ends.tells ∙ kept.tells;
+    later_faults = later_both a.faults am.faults a'.faults kept.later_faults ends.faults;
+    later_cuts = later_both a.cuts am.cuts a'.cuts kept.later_cuts ends.cuts;
+    cut = rose_once cuts a.cuts am.cuts a'.cuts kept.cut ends.cuts (ends.lost refl).0;
+    failed = rose_stays 0 a.faults am.faults a'.faults kept.failed ends.faults;
+  }
+
+  -- one that ended otherwise
+  pub kept_ended : {T : Type 0} {result : Result T StartEnd} → StartEnds {T = T} am a' result → IsKept cuts 0 a a'
+  kept_ended ends = record {
+    shown = shown ∙ kept.shown;
+    tells = ends.tells ∙ kept.tells;
+    later_faults = later_both a.faults am.faults a'.faults kept.later_faults ends.faults;
+    later_cuts = later_both a.cuts am.cuts a'.cuts kept.later_cuts ends.cuts;
+    cut = rose_stays cuts a.cuts am.cuts a'.cuts kept.cut ends.cuts;
+    failed = rose_stays 0 a.faults am.faults a'.faults kept.failed ends.faults;
+  }
+
+  pub kept_failed : {T : Type 0} → StartEnds {T = T} am a' (Err Flash) → IsKept cuts 1 a a'
+  kept_failed ends = record {
+    shown = shown ∙ kept.shown;
+    tells = ends.tells ∙ kept.tells;
+    later_faults = later_both a.faults am.faults a'.faults kept.later_faults ends.faults;
+    later_cuts = later_both a.cuts am.cuts a'.cuts kept.later_cuts ends.cuts;
+    cut = rose_stays cuts a.cuts am.cuts a'.cuts kept.cut ends.cuts;
+    failed = fault_once a.faults am.faults a'.faults kept.later_faults (ends.flash refl).0;
+  }
+
+module _ {K : Type 0} (took : K → List ℕ → K → Type 0) (both : Joins took) (old mid new : K) (cuts : ℕ) (card card' : CardState) (a am : ArrayState) (first : took old (items_text (further_cuts cuts)) mid) where
+  -- the line behind the cuts broke off
+  opens_broken : (a' : ArrayState) (item : Item) (halt : Halt) → cuts ≤ 8 → IsKept cuts 0 a a' → Takes took mid (item ∷ []) (Err halt) new → halt ≡ SinkFailed → OpensAgain took old card a (Err halt) new card' a'
+  opens_broken a' item halt few kept line is = subst (λ h. Takes took mid (item ∷ []) (Err h) new → OpensAgain took old card a (Err h) new card' a') (sym is) (λ part. record {
+    cuts = cuts;
+    items = further_cuts cuts;
+    lines = (refl, few);
+    wrote = part_next took both old mid new (further_cuts cuts) first (part_of_one took mid new item part);
+    kept = kept;
+    opened = tt;
+  }) line
+
+  module _ (kept : IsKept cuts 0 a am) (few : cuts < 8) where
+    opens_fault : (a' : ArrayState) → IsKept cuts 1 a a' → took mid (items_text (Off Fault ∷ [])) new → OpensAgain took old card a (Err OpenFault) new card' a'
+    opens_fault a' after line = record {
+      cuts = cuts;
+      items = further_cuts cuts ++ Off Fault ∷ [];
+      lines = (refl, le-leb cuts 7 (omega (arith, few)));
+      wrote = taken_behind took both old mid new (further_cuts cuts) (Off Fault ∷ []) first line;
+      kept = after;
+      opened = tt;
+    }
+
+    opens_bad : (a' : ArrayState) → IsKept cuts 0 a a' → took mid (items_text (Off Image ∷ [])) new → OpensAgain took old card a (Err BadPages) new card' a'
+    opens_bad a' after line = record {
+      cuts = cuts;
+      items = further_cuts cuts ++ Off Image ∷ [];
+      lines = (refl, le-leb cuts 7 (omega (arith, few)));
+      wrote = taken_behind took both old mid new (further_cuts cuts) (Off Image ∷ []) first line;
+      kept = after;
+      opened = tt;
+    }
+
+    module _ (a' : ArrayState) (shown : shown_by a' ≡ shown_by am) where
+      pub failed_opens : (why : StartEnd) (halt : Halt) → StartEnds {T = Unit {0}} am a' (Err why) → Takes took mid (failed_line why ∷ []) (Err halt) new → HaltsFor why (Err halt)
+          → OpensAgain took old card a (Err halt) new card' a'
+      failed_opens PowerLost halt ends line is = opens_broken a' Cut halt (omega (arith, few)) (kept_ended cuts a am a' kept shown ends) line is
+      failed_opens Flash halt ends line (inl is) = opens_broken a' (Off Fault) halt (omega (arith, few)) (kept_ended cuts a am a' kept shown ends) line is
+      failed_opens Flash halt ends line (inr is) =
+          subst (λ h. Takes took mid (Off Fault ∷ []) (Err h) new → OpensAgain took old card a (Err h) new card' a') (sym is) (λ whole. opens_fault a' (kept_failed cuts a am a' kept shown ends) whole) line
+      failed_opens BadImage halt ends line (inl is) = opens_broken a' (Off Image) halt (omega (arith, few)) (kept_ended cuts a am a' kept shown ends) line is
+      failed_opens BadImage halt ends line (inr is) =
+          subst (λ h. Takes took mid (Off Image ∷ []) (Err h) new → OpensAgain took old card a (Err h) new card' a') (sym is) (λ whole. opens_bad a' (kept_ended cuts a am a' kept shown ends) whole) line
+
+  -- no more openings may be made, and the end line broke off
+  pub dead_opens : IsKept cuts 0 a am → (halt : Halt) → cuts ≡ 8 → Takes took mid (Off Dead ∷ []) (Err halt) new → halt ≡ SinkFailed → OpensAgain took old card a (Err halt) new card' am
+  dead_opens kept halt eight line is = opens_broken am (Off Dead) halt (omega (arith, eight)) kept line is

@@ -1,0 +1,6 @@
+pub mod Lines
+pub mod Acting
+pub mod Orders
+pub mod Plain
+pub mod Back
+pub mod Events
