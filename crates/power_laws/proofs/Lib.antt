@@ -3,6 +3,7 @@ mod Stored
 mod UnderWay
 mod PhaseEnds
 mod ReadOff
+pub mod NothingToDo
 mod Losing
 mod Darks
 mod CardEvents

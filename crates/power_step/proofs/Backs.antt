@@ -1,6 +1,5 @@
 -- The power is on again: the path is set up anew, and what is left is shown.
-use Rattle.std.proofs.Common.{◌≡◌, ◌∙◌, ◌++◌, ◌∷◌, ◌+◌, ◌<◌, ◌≤◌, ◌⊎◌, inl, inr, ℕ, true, false, All, IfSome, List, [], Option, None, Some, OnOk, Result, Ok, Err, is_some, length, map, option_map, take, unwrap_or, ap, refl, sym, subst, arith}
-use Rattle.std.specs.Prelude.{count_by}
+use Rattle.std.proofs.Common.{◌≡◌, ◌∙◌, ◌++◌, ◌∷◌, ◌<◌, inr, ℕ, true, All, IfSome, List, [], Option, None, Some, OnOk, Result, Ok, Err, is_some, length, map, option_map, unwrap_or, ap, refl, sym, subst, arith}
 use Rattle.io_edge.specs.Sink.{Joins}
 use Rattle.storage_machine.specs.declared.state.State.{State}
 use Rattle.storage_model.specs.Count.{Later}
@@ -16,7 +15,7 @@ use Rattle.trace_print.specs.Prints.{RoseBy, halt_faults, is_cut_line, is_flash}
 use Rattle.trace_text.specs.Trace.{items_text}
 use Rattle.array_edge.specs.Array.{ArrayState}
 use Rattle.intent_store.specs.Intent.{shown_by}
-use Rattle.card_core.specs.Card.{CardState, idle_card, sectors, set_up as card_set_up}
+use Rattle.card_core.specs.Card.{CardState, idle_card, set_up as card_set_up}
 use Rattle.card_store.specs.Store.{Contents, IsStore, Stands}
 use Rattle.cut_laws.specs.Laws.{further_cuts}
 use Rattle.cut_laws.specs.Lost.{lost_lines}
@@ -30,13 +29,12 @@ use Rattle.dark_laws.proofs.Kept.{left_so}
 use Rattle.dark_laws.proofs.Pages.{pages_left}
 use Rattle.dark_laws.proofs.TiedAnew.{tied_anew}
 use Rattle.dark_laws.specs.Anew.{IsCardAnew, IsSetAnew, Leads, Outlasts, set_anew}
-use Rattle.dark_laws.specs.Ends.{LosesSome, ShowsSome}
+use Rattle.dark_laws.specs.Ends.{ShowsSome}
 use Rattle.dark_laws.specs.Kept.{LeavesSo}
-use Rattle.fall_laws.specs.Falls.{IsAnew}
 use Rattle.world_state.specs.Path.{PathState, plan_of}
 use Rattle.world_state.specs.Told.{ComesBack, IsLosing, StaysDark}
 use Rattle.power_step.specs.Cut.{ArePlain, EndsLeft, IsKept, IsOpened, IsRead, LeftWritten, LostWritten, OpensAgain, ShowsFirst}
-use Rattle.power_step.specs.Loses.{HasEnd, IsBackOn, Leaves, Loses, LosesPower}
+use Rattle.power_step.specs.Loses.{HasEnd, IsBackOn, Leaves, Loses}
 use Rattle.power_step.specs.Wrote.{Wrote}
 use Rattle.power_step.proofs.Counting.{count_join, count_no, cuts_counted, cuts_flash, later_both, rose_before}
 use Rattle.power_step.proofs.Darks.{AreCounted, causes_of, counted_behind}

@@ -1,10 +1,9 @@
 -- A run that ends behind the cut, before the power is on again.
-use Rattle.std.proofs.Common.{◌≡◌, ◌∙◌, ◌++◌, ◌∷◌, ◌+◌, ◌-◌, ◌<◌, ◌≤◌, ◌⊎◌, inl, inr, ℕ, Bool, true, false, List, [], Result, Ok, Err, ap, refl, sym, subst, arith}
+use Rattle.std.proofs.Common.{◌≡◌, ◌∙◌, ◌++◌, ◌∷◌, ◌+◌, ◌-◌, inl, inr, ℕ, Bool, true, false, List, [], Result, Ok, Err, ap, refl, sym, subst, arith}
 use Rattle.std.proofs.lemmas.List.{append_assoc, append-nil}
 use Rattle.std.specs.Prelude.{count_by}
 use Rattle.io_edge.specs.Sink.{Joins}
 use Rattle.storage_machine.specs.declared.state.State.{State}
-use Rattle.storage_model.specs.Count.{Later}
 use Rattle.storage_model.specs.declared.ends.Halt.{Halt}
 use Rattle.storage_model.specs.declared.ends.Halt.TheVariants.{SinkFailed, OpenFault, PowerGone, BadImage}
 use Rattle.storage_model.specs.declared.trace.End.{End}
@@ -13,7 +12,6 @@ use Rattle.storage_model.specs.declared.trace.Item.{Item}
 use Rattle.storage_model.specs.declared.trace.Item.TheVariants.{Cut, Off}
 use Rattle.storage_runs.specs.Runs.{StaysSo}
 use Rattle.trace_effects.specs.Effects.{effect}
-use Rattle.trace_print.proofs.Joined.{taken_behind}
 use Rattle.trace_print.specs.Prints.{HasCauses, RoseBy, Takes, halt_faults, is_cut_line, is_flash}
 use Rattle.trace_text.specs.Trace.{items_text}
 use Rattle.array_edge.specs.Array.{ArrayState}
@@ -27,9 +25,8 @@ use Rattle.dark_laws.specs.Anew.{Outlasts}
 use Rattle.dark_laws.specs.Ends.{LosesSome}
 use Rattle.world_state.specs.Path.{PathState}
 use Rattle.world_state.specs.Told.{IsLosing, StaysDark}
-use Rattle.power_step.specs.Cut.{ArePlain, EndsWith, IsKept, IsReopening, LostWritten, OpensAgain}
-use Rattle.power_step.specs.Loses.{BreaksAtOnce, HasEnd, Loses, LosesPower}
-use Rattle.power_step.specs.Wrote.{TakesPart}
+use Rattle.power_step.specs.Cut.{EndsWith, IsKept, IsReopening, LostWritten, OpensAgain}
+use Rattle.power_step.specs.Loses.{HasEnd, Loses}
 use Rattle.power_step.proofs.Counting.{count_join, count_no, count_yes, cuts_counted, cuts_flash, later_same, plain_lost, rose_none}
 use Rattle.power_step.proofs.Staying.{stays_cuts, stays_lost}
 use Rattle.power_step.proofs.Taking.{part_behind, part_of_one, wrote_behind}

@@ -1,5 +1,5 @@
 -- What is left of the sectors, one after the other.
-use Rattle.std.proofs.Common.{◌≡◌, ◌∙◌, ◌++◌, ◌∷◌, ◌+◌, ◌<◌, ◌≤◌, ◌⊎◌, inl, inr, ℕ, zero, suc, true, false, All, IfSome, List, [], Option, None, Some, Result, Ok, Err, is_some, length, map, take, ap, refl, sym, subst, arith}
+use Rattle.std.proofs.Common.{◌≡◌, ◌∙◌, ◌++◌, ◌∷◌, ◌<◌, ℕ, suc, List, [], Result, Ok, Err, length, ap, refl, sym, arith}
 use Rattle.std.proofs.lemmas.List.{append_assoc}
 use Rattle.std.proofs.lemmas.List.Elements.{All-head, All-tail}
 use Rattle.io_edge.specs.Sink.{Joins}
@@ -8,15 +8,14 @@ use Rattle.storage_model.specs.declared.ends.Halt.{Halt}
 use Rattle.storage_model.specs.declared.ends.Halt.TheVariants.{SinkFailed, OpenFault, PowerGone, BadImage}
 use Rattle.storage_model.specs.declared.trace.End.TheVariants.{Fault}
 use Rattle.storage_model.specs.declared.trace.Item.{Item}
-use Rattle.storage_model.specs.declared.trace.Item.TheVariants.{Left, Off}
+use Rattle.storage_model.specs.declared.trace.Item.TheVariants.{Off}
 use Rattle.array_edge.specs.Array.{ArrayState}
 use Rattle.intent_store.specs.Intent.{shown_by}
-use Rattle.card_store.specs.Store.{IsOpen, Stands}
+use Rattle.card_store.specs.Store.{IsOpen}
 use Rattle.card_core.specs.Card.{CardState}
 use Rattle.left_laws.specs.Lines.{left_line}
-use Rattle.trace_text.specs.Trace.{items_text}
 use Rattle.power_step.specs.Cut.{EndsLeft, IsRead, LeftWritten, SectorWritten, ShowsFirst, ShowsSector}
-use Rattle.power_step.proofs.Counting.{later_both, later_same, plain_join, rose_before, rose_none}
+use Rattle.power_step.proofs.Counting.{later_both, later_same, plain_join, rose_before}
 use Rattle.power_step.proofs.Taking.{wrote_behind}
 
 pub read_none : (card : CardState) (a : ArrayState) → IsOpen card.store a → IsRead card a card a
@@ -101,15 +100,4 @@ left_broken took sector rest halt old new card card' a a' part = record {
   plain = part.plain;
   read = part.read;
   failed = part.failed;
-}
-
-pub left_none : {K : Type 0} (took : K → List ℕ → K → Type 0) (nothing : (out : K) → took out [] out) (out : K) (card : CardState) (a : ArrayState) → IsOpen card.store a → LeftWritten took [] out card a (Ok tt) out card a
-left_none took nothing out card a opened = record {
-  items = [];
-  wrote = nothing out;
-  shows = λ after shown stands all. refl;
-  ends = tt;
-  plain = record { no_flash = refl; no_cut = refl };
-  read = read_none card a opened;
-  failed = rose_none a.faults a.faults (later_same a.faults);
 }

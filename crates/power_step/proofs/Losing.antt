@@ -1,5 +1,5 @@
 -- The lines of the requests that are lost.
-use Rattle.std.proofs.Common.{◌≡◌, ◌∙◌, ◌≤◌, ℕ, List, [], ◌∷◌, Option, None, Some, Result, Ok, Err, fold, length, map, take, ap, refl, subst, sym}
+use Rattle.std.proofs.Common.{◌≡◌, ◌∙◌, ◌≤◌, ℕ, List, [], ◌∷◌, Option, None, Some, Result, Err, fold, length, map, take, ap, subst, sym}
 use Rattle.std.proofs.lemmas.List.{take_all}
 use Rattle.io_edge.specs.Sink.{Joins}
 use Rattle.storage_model.specs.declared.ends.Halt.{Halt}
@@ -25,10 +25,6 @@ pub lost_broken : {K : Type 0} (took : K → List ℕ → K → Type 0) (holders
     → LostWritten took holders last old (Err halt) new
 lost_broken took holders last id old new halt line is = subst (λ h. Takes took old (Lost id ∷ []) (Err h) new → LostWritten took holders last old (Err h) new) (sym is)
     (λ part. record { ids = []; are = λ ok. absurd (cc); wrote = part_of_one took old new (Lost id) part }) line
-
--- none is left
-pub lost_end : {K : Type 0} (took : K → List ℕ → K → Type 0) (nothing : (out : K) → took out [] out) (holders : List (Option ℕ)) (last : ℕ) (out : K) → next_lost last holders ≡ None → LostWritten took holders last out (Ok tt) out
-lost_end took nothing holders last out none = record { ids = []; are = λ ok. none; wrote = nothing out }
 
 -- all tags were looked at
 pub all_looked : (last tag : ℕ) (holders : List (Option ℕ)) (next : Option ℕ) → next ≡ fold lower None (map (above last) (take tag holders)) → length holders ≤ tag → next ≡ next_lost last holders

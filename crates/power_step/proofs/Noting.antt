@@ -1,5 +1,5 @@
 -- The pending sectors of a store, one after the other.
-use Rattle.std.proofs.Common.{◌≡◌, ◌∙◌, ◌++◌, ◌∷◌, ◌+◌, ◌<◌, ◌≤◌, ℕ, suc, true, false, List, [], Option, None, Some, ap, refl, sym, arith}
+use Rattle.std.proofs.Common.{◌≡◌, ◌∙◌, ◌++◌, ◌∷◌, ◌+◌, ◌<◌, ◌≤◌, ℕ, suc, true, false, List, [], None, Some, ap, sym, arith}
 use Rattle.card_store.specs.Store.{IsFirstFrom, has_put as has_put_there}
 use Rattle.dark_laws.proofs.Pages.{same_put}
 use Rattle.left_laws.proofs.Sectors.{sectors_put, sectors_skip, steady}

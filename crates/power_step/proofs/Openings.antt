@@ -1,5 +1,5 @@
 -- The lines of the openings behind a cut.
-use Rattle.std.proofs.Common.{◌≡◌, ◌∙◌, ℕ, ◌+◌, ◌<◌, ◌≤◌, ◌⊎◌, ◌++◌, inl, inr, true, List, [], ◌∷◌, Option, Result, Ok, Err, is_some, refl, sym, subst, arith}
+use Rattle.std.proofs.Common.{◌≡◌, ◌∙◌, ℕ, ◌<◌, ◌≤◌, ◌++◌, inl, inr, List, [], ◌∷◌, Result, Err, refl, sym, subst, arith}
 use Rattle.std.proofs.lemmas.Bool.{le-leb}
 use Rattle.io_edge.specs.Sink.{Joins}
 use Rattle.storage_model.specs.declared.ends.Halt.{Halt}
@@ -14,36 +14,13 @@ use Rattle.intent_store.specs.declared.ends.StartEnd.TheVariants.{Flash, PowerLo
 use Rattle.card_core.specs.Card.{CardState}
 use Rattle.cut_laws.specs.Laws.{further_cuts}
 use Rattle.trace_print.proofs.Joined.{taken_behind}
-use Rattle.trace_print.specs.Prints.{Takes, halt_faults}
+use Rattle.trace_print.specs.Prints.{Takes}
 use Rattle.trace_text.specs.Trace.{items_text}
 use Rattle.power_step.specs.Cut.{HaltsFor, IsKept, OpensAgain, failed_line}
-use Rattle.power_step.specs.Wrote.{TakesPart}
-use Rattle.power_step.proofs.Counting.{fault_once, later_both, later_same, rose_none, rose_once, rose_stays}
+use Rattle.power_step.proofs.Counting.{fault_once, later_both, rose_stays}
 use Rattle.power_step.proofs.Taking.{part_next, part_of_one}
 
--- before the first
-pub kept_first : (a : ArrayState) → IsKept 0 0 a a
-kept_first a = record {
-  shown = refl;
-  tells = refl;
-  later_faults = later_same a.faults;
-  later_cuts = later_same a.cuts;
-  cut = rose_none a.cuts a.cuts (later_same a.cuts);
-  failed = rose_none a.faults a.faults (later_same a.faults);
-}
-
 module _ (cuts : ℕ) (a am a' : ArrayState) (kept : IsKept cuts 0 a am) (shown : shown_by a' ≡ shown_by am) where
-  -- one that was cut
-  pub kept_cut : {T : Type 0} → StartEnds {T = T} am a' (Err PowerLost) → IsKept (cuts + 1) 0 a a'
-  kept_cut ends = record {
-    shown = shown ∙ kept.shown;
-    tells = ends.tells ∙ kept.tells;
-    later_faults = later_both a.faults am.faults a'.faults kept.later_faults ends.faults;
-    later_cuts = later_both a.cuts am.cuts a'.cuts kept.later_cuts ends.cuts;
-    cut = rose_once cuts a.cuts am.cuts a'.cuts kept.cut ends.cuts (ends.lost refl).0;
-    failed = rose_stays 0 a.faults am.faults a'.faults kept.failed ends.faults;
-  }
-
   -- one that ended otherwise
   pub kept_ended : {T : Type 0} {result : Result T StartEnd} → StartEnds {T = T} am a' result → IsKept cuts 0 a a'
   kept_ended ends = record {

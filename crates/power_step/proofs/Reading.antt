@@ -1,7 +1,7 @@
 -- What is left of one sector.
-use Rattle.std.proofs.Common.{◌≡◌, ◌∙◌, ◌∷◌, ◌<◌, ◌≤◌, ◌⊎◌, inl, inr, ℕ, true, false, IfErr, IfSome, List, [], MatchOption, Option, None, Some, Result, Ok, Err, is_some, length, ap, refl, sym, subst, arith}
+use Rattle.std.proofs.Common.{◌≡◌, ◌∙◌, ◌∷◌, ◌<◌, ◌≤◌, ℕ, true, IfErr, IfSome, List, [], Some, Result, Ok, Err, length, ap, refl, sym, subst, arith}
 use Rattle.storage_model.specs.Contents.{contents_now, sector_at}
-use Rattle.storage_model.specs.Count.{Count, Later, Rose}
+use Rattle.storage_model.specs.Count.{Later, Rose}
 use Rattle.storage_model.specs.declared.block.Block.{Block}
 use Rattle.storage_model.specs.declared.ends.Halt.{Halt}
 use Rattle.storage_model.specs.declared.ends.Halt.TheVariants.{SinkFailed, OpenFault}
@@ -9,10 +9,10 @@ use Rattle.storage_model.specs.declared.trace.End.TheVariants.{Fault}
 use Rattle.storage_model.specs.declared.trace.Item.{Item}
 use Rattle.storage_model.specs.declared.trace.Item.TheVariants.{Left, Off}
 use Rattle.array_edge.specs.Array.{ArrayState}
-use Rattle.intent_store.specs.Intent.{IntentStands, Known, StoreEnds, shown_by}
+use Rattle.intent_store.specs.Intent.{StoreEnds, shown_by}
 use Rattle.intent_store.specs.declared.ends.StoreEnd.{StoreEnd}
 use Rattle.intent_store.specs.declared.ends.StoreEnd.TheVariants.{Flash, PowerLost}
-use Rattle.card_store.specs.Store.{HasSector, IsOpen, IsSameStore, Reads, Stands, Store, Turns, same, sectors_of}
+use Rattle.card_store.specs.Store.{IsOpen, IsSameStore, Reads, Stands, Turns, same, sectors_of}
 use Rattle.card_core.specs.Card.{CardState}
 use Rattle.left_laws.specs.Lines.{left_line}
 use Rattle.trace_print.specs.Prints.{Takes}
@@ -103,12 +103,3 @@ module _ {K : Type 0} (took : K → List ℕ → K → Type 0) (sector : ℕ) (c
     pub sector_printed : (result : Result (Unit {0}) Halt) → Reads card.store a sector value → Takes took old (Left sector value ∷ []) result new → IfErr result (λ halt. halt ≡ SinkFailed) → SectorWritten took sector old card a result new card' a'
     sector_printed (Ok done) reads takes is = sector_shown reads takes
     sector_printed (Err halt) reads takes is = sector_broken halt (Left sector value) takes is
-
--- a sector in front of the image's end
-pub has_sector : (store : Store) (sector count : ℕ) → sectors_of store ≡ Some count → sector < count → HasSector store sector
-has_sector store sector count is less = subst (λ o. MatchOption o ⊥ (λ count. sector < count)) (sym is) less
-
--- an image that is open is known
-pub is_known : (a : ArrayState) (known : Option Known) → MatchOption known ⊥ (λ known. IntentStands known a) → is_some known ≡ true
-is_known a None none = absurd none
-is_known a (Some known) stands = refl

@@ -1,18 +1,16 @@
 -- What a loss of power comes to, by what comes of the openings.
-use Rattle.std.proofs.Common.{◌≡◌, ◌∙◌, ◌∷◌, ◌≤◌, ◌⊎◌, inl, inr, ℕ, List, [], OnOk, Result, Ok, Err, is_some, ap, refl, sym, subst, arith}
+use Rattle.std.proofs.Common.{◌≡◌, ◌∷◌, inl, inr, ℕ, List, [], OnOk, Result, Ok, Err, refl, sym, subst, arith}
 use Rattle.io_edge.specs.Sink.{Joins}
 use Rattle.storage_model.specs.declared.ends.Halt.{Halt}
 use Rattle.storage_model.specs.declared.ends.Halt.TheVariants.{SinkFailed}
-use Rattle.storage_model.specs.declared.trace.Item.{Item}
 use Rattle.storage_model.specs.declared.trace.Item.TheVariants.{Cut, On}
 use Rattle.array_edge.specs.Array.{ArrayState}
 use Rattle.card_core.specs.Card.{CardState}
-use Rattle.card_store.specs.Store.{IsStore}
 use Rattle.dark_laws.specs.Anew.{Outlasts, set_anew}
 use Rattle.trace_print.specs.Prints.{Takes}
 use Rattle.trace_text.specs.Trace.{items_text}
 use Rattle.world_state.specs.Path.{PathState}
-use Rattle.power_step.specs.Cut.{LeftWritten, LostWritten, OpensAgain, PowerReturns}
+use Rattle.power_step.specs.Cut.{LostWritten, OpensAgain, PowerReturns}
 use Rattle.power_step.specs.Loses.{IsBackOn, Loses}
 use Rattle.power_step.proofs.Backs.{AreNoted, lit_back, lit_loses}
 use Rattle.power_step.proofs.Darks.{opens_dark}
@@ -34,18 +32,6 @@ module _ {K : Type 0} (took : K → List ℕ → K → Type 0) (pending : List �
     kept = opens.kept;
     opened = tt;
   })) line
-
-  -- it didn't
-  pub lit_again : (reopened lit new : K) (opened card' : CardState) (shown a' : ArrayState) (result : Result (Unit {0}) Halt) → OpensAgain took old card a (Ok tt) reopened opened shown → took reopened (items_text (On ∷ [])) lit
-      → LeftWritten took pending lit opened shown result new card' a' → OnOk result (IsStore card'.store) → PowerReturns took pending old card a result new card' a'
-  lit_again reopened lit new opened card' shown a' result opens on left store =
-      inr (record { reopened = reopened; lit = lit; opened = opened; shown = shown; opens = opens; on = on; left = left; store = store })
-
--- an array that tells its pages goes on telling them
-pub returns_tell : {K : Type 0} (took : K → List ℕ → K → Type 0) (pending : List ℕ) (old new : K) (card card' : CardState) (a a' : ArrayState) (result : Result (Unit {0}) Halt)
-    → PowerReturns took pending old card a result new card' a' → is_some a'.told ≡ is_some a.told
-returns_tell took pending old new card card' a a' result (inl off) = off.opens.kept.tells
-returns_tell took pending old new card card' a a' result (inr on) = ap (λ x. is_some x.told) on.left.read.array ∙ on.opens.kept.tells
 
 module _ {K : Type 0} (took : K → List ℕ → K → Type 0) (both : Joins took) (p : PathState) (a : ArrayState) (out : Outlasts p) (pending : List ℕ) (noted : AreNoted pending p.card) (begun : PathState) (is : begun ≡ set_anew p p.card p.script) where
   module _ (old m1 m2 new : K) (card' : CardState) (a' : ArrayState) (result : Result (Unit {0}) Halt) (first : took old (items_text (Cut ∷ [])) m1) (lost : LostWritten took p.driver.requests.holders 0 m1 (Ok tt) m2) where

@@ -1,5 +1,5 @@
 -- Lines that tell nothing of what is left.
-use Rattle.std.proofs.Common.{◌≡◌, ◌++◌, ◌∷◌, ℕ, zero, suc, List, [], refl}
+use Rattle.std.proofs.Common.{◌++◌, ◌∷◌, ℕ, zero, suc, List, [], refl}
 use Rattle.cut_laws.specs.Laws.{further_cuts}
 use Rattle.cut_laws.specs.Lost.{lost_lines}
 use Rattle.storage_machine.specs.declared.state.State.{State}

@@ -1,5 +1,5 @@
 -- The lines behind a cut, stage by stage, with what the array and the card come to.
-use Rattle.std.specs.Prelude.{◌≡◌, ◌⊎◌, ◌≤◌, ◌<◌, ◌+◌, ℕ, true, All, IfErr, IfSome, OnOk, List, [], ◌∷◌, ◌++◌, Option, Some, Result, Ok, Err, count_by, is_ok, is_some, length, map, take}
+use Rattle.std.specs.Prelude.{◌≡◌, ◌⊎◌, ◌≤◌, ◌<◌, ℕ, true, All, IfErr, IfSome, OnOk, List, [], ◌∷◌, ◌++◌, Option, Some, Result, Ok, Err, count_by, is_ok, is_some, length, map, take}
 use Rattle.storage_model.specs.Count.{Later}
 use Rattle.storage_model.specs.declared.block.Block.{Block}
 use Rattle.storage_model.specs.declared.ends.Halt.{Halt}

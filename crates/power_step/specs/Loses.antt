@@ -14,7 +14,7 @@ use Rattle.cut_order.specs.Order.{OrderState}
 use Rattle.fall_laws.specs.Falls.{IsAnew}
 use Rattle.power_step.specs.Wrote.{TakesPart, Wrote}
 use Rattle.world_state.specs.Path.{PathState, plan_of}
-use Rattle.world_state.specs.Ties.{AreTied, IsReady}
+use Rattle.world_state.specs.Ties.{IsReady}
 use Rattle.world_state.specs.Told.{ComesBack, IsLosing, StaysDark}
 
 -- the lines behind the cut lead to a state that the path stands for, or to the end of the run

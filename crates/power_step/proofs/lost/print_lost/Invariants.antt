@@ -1,4 +1,4 @@
-use Rattle.std.proofs.Common.{ℕ, ◌-◌, Result}
+use Rattle.std.proofs.Common.{◌-◌, Result}
 use Rattle.storage_model.specs.Count.{Later}
 use Rattle.storage_model.specs.declared.ends.Halt.{Halt}
 use Rattle.power_step.specs.Cut.{LostWritten}
