@@ -457,6 +457,7 @@ impl Card {
         ensures store { IsSameStore self.old.store self.new.store }
         ensures ok { OnOk result (Reads self.old.store (A.state array.old) sector block.new) }
         ensures turns { Turns same self.old.store (A.state array.old) self.new.store (A.state array.new) }
+        ensures cache { self.new.store.cache ≡ self.old.store.cache }
         ensures same { A.state array.new ≡ record (A.state array.old) { faults = (A.state array.new).faults; fetches = (A.state array.new).fetches } }
         ensures ends { StoreEnds (A.state array.old) (A.state array.new) result }
     {

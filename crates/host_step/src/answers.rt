@@ -1,5 +1,5 @@
 // The lines of an interrupt: the tasks that are collected, and the answer of each.
-ghost use Rattle.std.specs.Prelude.{◌≡◌, ◌==◌, ◌<◌, ◌≤◌, ◌∷◌, [], true, IfErr, flat_map, length, map};
+ghost use Rattle.std.specs.Prelude.{◌≡◌, ◌==◌, ◌<◌, ◌≤◌, ◌∷◌, [], true, IfErr, OnErr, flat_map, length, map};
 ghost use Rattle.std.specs.Int.{bit_at};
 ghost use Rattle.std.specs.List.{range_with_len};
 ghost use Rattle.drv_recover.specs.declared.recovery.RecoveryState.TheVariants.{Calm};
@@ -8,6 +8,7 @@ ghost use Rattle.drv_ring.specs.Layout.{HasLayout, IsTagOf};
 ghost use Rattle.drv_ring.specs.Pieces.{tag_pieces};
 ghost use Rattle.drv_ring.specs.declared.places.TheConstants.{MOST_BLOCKS};
 ghost use Rattle.piece_data.specs.Data.{block_of};
+ghost use Rattle.storage_model.specs.Count.{Later, Rose};
 ghost use Rattle.storage_model.specs.declared.ends.Halt.TheVariants.{SinkFailed};
 ghost use Rattle.storage_model.specs.declared.trace.Item.TheVariants.{Sector};
 ghost use Rattle.trace_print.specs.Prints.{Takes};
@@ -35,6 +36,8 @@ pub fn collect<K: Sink>(path: &Path, out: &mut K) -> Result<(), Halt>
     requires calm { path.now.driver.recovery ≡ Calm }
     ensures takes { Takes K.took out.old (collect_lines path.now path.now.regs.completed) result out.new }
     ensures halt { IfErr result (λ halt. halt ≡ SinkFailed) }
+    ensures faults { Later (K.faults out.old) (K.faults out.new) }
+    ensures failed { OnErr result (Rose (K.faults out.old) (K.faults out.new)) }
 {
     let mask = path.regs.value(Register::CompletionNotification);
     print(&Item::Irq { mask }, out)?;
@@ -47,6 +50,8 @@ fn answer_all<K: Sink>(path: &Path, out: &mut K) -> Result<(), Halt>
     requires calm { path.now.driver.recovery ≡ Calm }
     ensures takes { Takes K.took out.old (flat_map (answer_at path.now path.now.regs.completed) (range_with_len 0 32)) result out.new }
     ensures halt { IfErr result (λ halt. halt ≡ SinkFailed) }
+    ensures faults { Later (K.faults out.old) (K.faults out.new) }
+    ensures failed { OnErr result (Rose (K.faults out.old) (K.faults out.new)) }
 {
     for tag in 0..TAGS {
         answer_tag(path, tag, out)?;
@@ -61,6 +66,8 @@ fn answer_tag<K: Sink>(path: &Path, tag: u8, out: &mut K) -> Result<(), Halt>
     requires low { tag < 32 }
     ensures takes { Takes K.took out.old (answer_at path.now path.now.regs.completed tag) result out.new }
     ensures halt { IfErr result (λ halt. halt ≡ SinkFailed) }
+    ensures faults { Later (K.faults out.old) (K.faults out.new) }
+    ensures failed { OnErr result (Rose (K.faults out.old) (K.faults out.new)) }
 {
     if is_set(path.regs.value(Register::CompletionNotification), tag) {
         answer(path, tag, out)
@@ -84,6 +91,8 @@ fn answer<K: Sink>(path: &Path, tag: u8, out: &mut K) -> Result<(), Halt>
     requires done { is_done path.now tag ≡ true }
     ensures takes { Takes K.took out.old (answer_of_holder path.now tag (holder path.now tag)) result out.new }
     ensures halt { IfErr result (λ halt. halt ≡ SinkFailed) }
+    ensures faults { Later (K.faults out.old) (K.faults out.new) }
+    ensures failed { OnErr result (Rose (K.faults out.old) (K.faults out.new)) }
 {
     match path.driver.holder(tag) {
         Some(id) => answer_job(path, tag, id, out),
@@ -100,6 +109,8 @@ fn answer_job<K: Sink>(path: &Path, tag: u8, id: u32, out: &mut K) -> Result<(),
     requires blocks { HasBlocks (job path.now id) }
     ensures takes { Takes K.took out.old (answer_of_job path.now tag id (job path.now id)) result out.new }
     ensures halt { IfErr result (λ halt. halt ≡ SinkFailed) }
+    ensures faults { Later (K.faults out.old) (K.faults out.new) }
+    ensures failed { OnErr result (Rose (K.faults out.old) (K.faults out.new)) }
 {
     match *path.driver.plan().jobs.at(id as usize - 1) {
         Job::Read { blocks, .. } => {
@@ -121,6 +132,8 @@ fn print_blocks<K: Sink>(path: &Path, tag: u8, blocks: u16, out: &mut K) -> Resu
     requires few { blocks ≤ MOST_BLOCKS }
     ensures takes { Takes K.took out.old (map Sector (map (block_of path.now.memory (tag_pieces (layout path.now) tag blocks)) (range_with_len 0 blocks))) result out.new }
     ensures halt { IfErr result (λ halt. halt ≡ SinkFailed) }
+    ensures faults { Later (K.faults out.old) (K.faults out.new) }
+    ensures failed { OnErr result (Rose (K.faults out.old) (K.faults out.new)) }
 {
     let layout = path.driver.layout();
     let mut value = Block([0; 512]);

@@ -1,5 +1,6 @@
 // One event of the driver, with its lines.
-ghost use Rattle.std.specs.Prelude.{◌≡◌, ◌++◌, IfErr};
+ghost use Rattle.std.specs.Prelude.{◌≡◌, ◌++◌, Err, IfErr, OnErr};
+ghost use Rattle.storage_model.specs.Count.{Later, Rose};
 ghost use Rattle.storage_model.specs.declared.ends.Halt.TheVariants.{SinkFailed};
 ghost use Rattle.card_link.specs.Behind.{Fits};
 ghost use Rattle.host_step.specs.Lines.{HostPrints, answers_of, lines_behind};
@@ -32,6 +33,8 @@ pub fn host_event<A: Array, K: Sink>(
     requires fits { Fits (behind_path path.old (A.state array.old)) }
     ensures prints { HostPrints K.took path.old (A.state array.old) out.old result path.new (A.state array.new) out.new }
     ensures halt { IfErr result (λ halt. halt ≡ SinkFailed) }
+    ensures faults { Later (K.faults out.old) (K.faults out.new) }
+    ensures failed { result ≡ Err SinkFailed → Rose (K.faults out.old) (K.faults out.new) }
 {
     let answered = answer_done(path, out);
     let act = driver_event(path, array);
@@ -46,6 +49,8 @@ fn answer_done<K: Sink>(path: &Path, out: &mut K) -> Result<(), Halt>
     requires { AreTied path.now }
     ensures takes { Takes K.took out.old (answers_of path.now) result out.new }
     ensures halt { IfErr result (λ halt. halt ≡ SinkFailed) }
+    ensures faults { Later (K.faults out.old) (K.faults out.new) }
+    ensures failed { OnErr result (Rose (K.faults out.old) (K.faults out.new)) }
 {
     match path.driver.work(&path.regs) {
         Work::Collect => collect(path, out),

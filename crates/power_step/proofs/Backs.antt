@@ -61,7 +61,7 @@ if_more P Q (Some x) more holds = more x holds
 end_of : (result : Result (Unit {0}) Halt) (items : List Item) → EndsLeft result items → HasEnd items result
 end_of (Ok done) items ends = tt
 end_of (Err SinkFailed) items ends = tt
-end_of (Err OpenFault) items ends = (ends.0, Fault, ends.1)
+end_of (Err OpenFault) items ends = ends
 end_of (Err PowerGone) items ends = absurd ends
 end_of (Err BadImage) items ends = absurd ends
 
@@ -195,6 +195,7 @@ module _ {K : Type 0} (took : K → List ℕ → K → Type 0) (both : Joins too
           script = record { hits = refl; ready = refl; sent = omega arith; used = omega arith };
         };
         plan = refl;
+        empty = ap (λ x. x.lines) left.read.cache ∙ opens.opened.lines;
       }
 
     module _ (s : State) (o : OrderState) (losing : IsLosing s p o a) where

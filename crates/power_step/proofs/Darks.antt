@@ -26,7 +26,7 @@ use Rattle.dark_laws.specs.Ends.{LosesSome}
 use Rattle.world_state.specs.Path.{PathState}
 use Rattle.world_state.specs.Told.{IsLosing, StaysDark}
 use Rattle.power_step.specs.Cut.{EndsWith, IsKept, IsReopening, LostWritten, OpensAgain}
-use Rattle.power_step.specs.Loses.{HasEnd, Loses}
+use Rattle.power_step.specs.Loses.{EndsBy, HasEnd, Loses}
 use Rattle.power_step.proofs.Counting.{count_join, count_no, count_yes, cuts_counted, cuts_flash, later_same, plain_lost, rose_none}
 use Rattle.power_step.proofs.Staying.{stays_cuts, stays_lost}
 use Rattle.power_step.proofs.Taking.{part_behind, part_of_one, wrote_behind}
@@ -107,8 +107,8 @@ stays_by t cuts BadImage items lines = stays_ends t cuts Image items lines
 
 -- the end's line is the last
 
-ends_by : (front : List Item) (cuts : ℕ) (end : End) (items : List Item) → EndsWith cuts end items → (before : List Item) × (last : End) × (front ++ items ≡ before ++ Off last ∷ [])
-ends_by front cuts end items ends = (front ++ further_cuts cuts, end, ap (λ more. front ++ more) ends.0 ∙ sym (append_assoc front (further_cuts cuts) (Off end ∷ [])))
+ends_by : (front : List Item) (cuts : ℕ) (end : End) (items : List Item) → EndsWith cuts end items → EndsBy end (front ++ items)
+ends_by front cuts end items ends = (front ++ further_cuts cuts, ap (λ more. front ++ more) ends.0 ∙ sym (append_assoc front (further_cuts cuts) (Off end ∷ [])))
 
 has_end : (front : List Item) (cuts : ℕ) (halt : Halt) (items : List Item) → IsReopening cuts (Err halt) items → HasEnd (front ++ items) (Err halt)
 has_end front cuts SinkFailed items lines = tt

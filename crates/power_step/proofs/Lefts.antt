@@ -23,6 +23,7 @@ read_none card a opened = record {
   is_open = opened;
   same = refl;
   store = record { sectors = refl; last = refl; room = refl };
+  cache = refl;
   array = refl;
   faults = later_same a.faults;
   stands = λ after stands. stands;
@@ -37,6 +38,7 @@ read_both card mid card' a am a' first last = record {
     last = last.store.last ∙ first.store.last;
     room = last.store.room ∙ first.store.room;
   };
+  cache = last.cache ∙ first.cache;
   array = last.array ∙ ap {A = ArrayState} (λ x. record x { faults = a'.faults; fetches = a'.fetches }) first.array;
   faults = later_both a.faults am.faults a'.faults first.faults last.faults;
   stands = λ after stands. last.stands after (first.stands after stands);

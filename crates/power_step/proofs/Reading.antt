@@ -23,11 +23,12 @@ use Rattle.power_step.proofs.Lefts.{read_none}
 use Rattle.power_step.proofs.Taking.{part_of_one}
 
 pub is_read : (card : CardState) (a : ArrayState) (card' : CardState) (a' : ArrayState) → IsOpen card'.store a' → card' ≡ record card { store = card'.store } → IsSameStore card.store card'.store
-    → a' ≡ record a { faults = a'.faults; fetches = a'.fetches } → Later a.faults a'.faults → Turns same card.store a card'.store a' → IsRead card a card' a'
-is_read card a card' a' opened is store array faults turns = record {
+    → a' ≡ record a { faults = a'.faults; fetches = a'.fetches } → Later a.faults a'.faults → Turns same card.store a card'.store a' → card'.store.cache ≡ card.store.cache → IsRead card a card' a'
+is_read card a card' a' opened is store array faults turns cache = record {
   is_open = opened;
   same = is;
   store = store;
+  cache = cache;
   array = array;
   faults = faults;
   stands = λ after stands. turns (record { base = after; pend = [] }) stands;

@@ -60,6 +60,7 @@ pub record IsOpened (old new : CardState) (a : ArrayState) : Type 0 where
   pub card : new ≡ record (idle_card old.depth old.lines old.through new.store) { csd = card_set_up old (sectors new) }
   pub room : new.store.cache.room ≡ old.store.cache.room
   pub last : new.store.cache.last ≡ 0
+  pub lines : new.store.cache.lines ≡ []
   pub stands : IfSome (shown_by a) (λ shown. Stands (record { base = shown; pend = [] }) new.store a)
   pub powered : a.powered ≡ true
 
@@ -93,6 +94,7 @@ pub record IsRead (card : CardState) (a : ArrayState) (card' : CardState) (a' : 
   pub is_open : IsOpen card'.store a'
   pub same : card' ≡ record card { store = card'.store }
   pub store : IsSameStore card.store card'.store
+  pub cache : card'.store.cache ≡ card.store.cache
   pub array : a' ≡ record a { faults = a'.faults; fetches = a'.fetches }
   pub faults : Later a.faults a'.faults
   pub stands : (after : List Block) → Stands (record { base = after; pend = [] }) card.store a → Stands (record { base = after; pend = [] }) card'.store a'

@@ -2,8 +2,9 @@
 use Rattle.std.specs.Prelude.{◌≡◌, ◌⊎◌, ◌++◌, ◌∷◌, ℕ, List, [], Result, Ok, Err}
 use Rattle.storage_machine.specs.declared.state.State.{State}
 use Rattle.storage_model.specs.declared.ends.Halt.{Halt}
-use Rattle.storage_model.specs.declared.ends.Halt.TheVariants.{SinkFailed}
+use Rattle.storage_model.specs.declared.ends.Halt.TheVariants.{SinkFailed, OpenFault, PowerGone, BadImage}
 use Rattle.storage_model.specs.declared.trace.End.{End}
+use Rattle.storage_model.specs.declared.trace.End.TheVariants.{Fault, Dead, Image}
 use Rattle.storage_model.specs.declared.trace.Item.{Item}
 use Rattle.storage_model.specs.declared.trace.Item.TheVariants.{Cut, Off}
 use Rattle.storage_runs.specs.Runs.{StaysSo}
@@ -22,11 +23,17 @@ abbrev pub Leaves : State → List Item → Result (Unit {0}) Halt → PathState
 Leaves s items (Ok done) p a = ComesBack s items p a
 Leaves s items (Err halt) p a = StaysDark s items a
 
+-- the last of the lines is this end's
+abbrev pub EndsBy : End → List Item → Type 0
+EndsBy end items = (before : List Item) × (items ≡ before ++ Off end ∷ [])
+
 -- a run that ends otherwise than by its sink has its end's line
 abbrev pub HasEnd : List Item → Result (Unit {0}) Halt → Type 0
 HasEnd items (Ok done) = Unit {0}
 HasEnd items (Err SinkFailed) = Unit {0}
-HasEnd items (Err halt) = (before : List Item) × (end : End) × (items ≡ before ++ Off end ∷ [])
+HasEnd items (Err OpenFault) = EndsBy Fault items
+HasEnd items (Err PowerGone) = EndsBy Dead items
+HasEnd items (Err BadImage) = EndsBy Image items
 
 -- the cut and the lines behind it
 pub record LosesPower {K : Type 0} (took : K → List ℕ → K → Type 0) (p : PathState) (a : ArrayState) (old : K) (result : Result (Unit {0}) Halt) (p' : PathState) (a' : ArrayState) (new : K) : Type 0 where
@@ -51,3 +58,4 @@ pub record IsBackOn (p : PathState) (a : ArrayState) (p' : PathState) (a' : Arra
   pub ready : IsReady p' a'
   pub anew : IsAnew p p'
   pub plan : plan_of p' ≡ plan_of p
+  pub empty : p'.card.store.cache.lines ≡ []

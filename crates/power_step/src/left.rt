@@ -1,6 +1,7 @@
 // What a loss of power left of the sectors.
-ghost use Rattle.std.specs.Prelude.{◌≡◌, OnOk, true};
-ghost use Rattle.storage_model.specs.Count.{Later};
+ghost use Rattle.std.specs.Prelude.{◌≡◌, Err, OnOk, true};
+ghost use Rattle.storage_model.specs.Count.{Later, Rose};
+ghost use Rattle.storage_model.specs.declared.ends.Halt.TheVariants.{SinkFailed};
 ghost use Rattle.card_store.specs.Store.{IsOpen, IsStore};
 ghost use Rattle.power_step.specs.Cut.{LeftWritten, SectorWritten};
 
@@ -22,6 +23,7 @@ pub fn print_left<A: Array, K: Sink>(
     ensures left { LeftWritten K.took sectors.now out.old card.old (A.state array.old) result out.new card.new (A.state array.new) }
     ensures store { OnOk result (IsStore card.new.store) }
     ensures faults { Later (K.faults out.old) (K.faults out.new) }
+    ensures failed { result ≡ Err SinkFailed → Rose (K.faults out.old) (K.faults out.new) }
 {
     let mut k = 0;
     while k < sectors.len() {
@@ -44,6 +46,7 @@ fn print_sector<A: Array, K: Sink>(
     requires powered { (A.state array.old).powered ≡ true }
     ensures sector { SectorWritten K.took sector out.old card.old (A.state array.old) result out.new card.new (A.state array.new) }
     ensures faults { Later (K.faults out.old) (K.faults out.new) }
+    ensures failed { result ≡ Err SinkFailed → Rose (K.faults out.old) (K.faults out.new) }
 {
     if sector >= card.store().sectors() {
         return Ok(());

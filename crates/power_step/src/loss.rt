@@ -1,6 +1,7 @@
 // The loss of power.
-ghost use Rattle.std.specs.Prelude.{◌≡◌, OnOk, is_some};
-ghost use Rattle.storage_model.specs.Count.{Later};
+ghost use Rattle.std.specs.Prelude.{◌≡◌, Err, OnOk, is_some};
+ghost use Rattle.storage_model.specs.Count.{Later, Rose};
+ghost use Rattle.storage_model.specs.declared.ends.Halt.TheVariants.{SinkFailed};
 ghost use Rattle.card_link.specs.Behind.{Fits};
 ghost use Rattle.dark_laws.specs.Anew.{Outlasts, set_anew};
 ghost use Rattle.power_step.specs.Cut.{PowerReturns};
@@ -36,6 +37,7 @@ pub fn cut<A: Array, K: Sink>(
     ensures back { OnOk result (IsBackOn path.old (A.state array.old) path.new (A.state array.new)) }
     ensures told { is_some (A.state array.new).told ≡ is_some (A.state array.old).told }
     ensures faults { Later (K.faults out.old) (K.faults out.new) }
+    ensures failed { result ≡ Err SinkFailed → Rose (K.faults out.old) (K.faults out.new) }
 {
     print(&Item::Cut, out)?;
     print_lost(&path.driver, out)?;
@@ -53,6 +55,7 @@ fn come_back<A: Array, K: Sink>(
 ) -> Result<(), Halt>
     ensures returns { PowerReturns K.took pending.now out.old card.old (A.state array.old) result out.new card.new (A.state array.new) }
     ensures faults { Later (K.faults out.old) (K.faults out.new) }
+    ensures failed { result ≡ Err SinkFailed → Rose (K.faults out.old) (K.faults out.new) }
 {
     open_again(card, array, out)?;
     print(&Item::On, out)?;

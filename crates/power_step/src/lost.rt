@@ -1,6 +1,6 @@
 // The requests that are lost with the power.
-ghost use Rattle.std.specs.Prelude.{◌≡◌, IfErr};
-ghost use Rattle.storage_model.specs.Count.{Later};
+ghost use Rattle.std.specs.Prelude.{◌≡◌, Err, IfErr};
+ghost use Rattle.storage_model.specs.Count.{Later, Rose};
 ghost use Rattle.storage_model.specs.declared.ends.Halt.TheVariants.{SinkFailed};
 ghost use Rattle.cut_laws.specs.Lost.{above, lower, next_lost};
 ghost use Rattle.power_step.specs.Cut.{LostWritten};
@@ -15,6 +15,7 @@ pub fn print_lost<K: Sink>(driver: &Driver, out: &mut K) -> Result<(), Halt>
     ensures lost { LostWritten K.took driver.now.requests.holders 0 out.old result out.new }
     ensures halt { IfErr result (λ halt. halt ≡ SinkFailed) }
     ensures faults { Later (K.faults out.old) (K.faults out.new) }
+    ensures failed { result ≡ Err SinkFailed → Rose (K.faults out.old) (K.faults out.new) }
 {
     let mut last = 0;
     while let Some(id) = next_issued(driver, last) {

@@ -1,6 +1,7 @@
 // The openings behind a cut.
-ghost use Rattle.std.specs.Prelude.{◌∷◌, []};
-ghost use Rattle.storage_model.specs.Count.{Later};
+ghost use Rattle.std.specs.Prelude.{◌≡◌, ◌∷◌, [], Err};
+ghost use Rattle.storage_model.specs.Count.{Later, Rose};
+ghost use Rattle.storage_model.specs.declared.ends.Halt.TheVariants.{SinkFailed};
 ghost use Rattle.trace_print.specs.Prints.{Takes};
 ghost use Rattle.power_step.specs.Cut.{HaltsFor, OpensAgain, failed_line};
 
@@ -22,6 +23,7 @@ pub fn open_again<A: Array, K: Sink>(
 ) -> Result<(), Halt>
     ensures opens { OpensAgain K.took out.old card.old (A.state array.old) result out.new card.new (A.state array.new) }
     ensures faults { Later (K.faults out.old) (K.faults out.new) }
+    ensures failed { result ≡ Err SinkFailed → Rose (K.faults out.old) (K.faults out.new) }
 {
     let mut cuts = 0;
     while cuts < MOST_OPENINGS {
@@ -40,6 +42,7 @@ fn print_failed<K: Sink>(why: StartEnd, out: &mut K) -> Result<(), Halt>
     ensures taken { Takes K.took out.old (failed_line why ∷ []) result out.new }
     ensures halt { HaltsFor why result }
     ensures faults { Later (K.faults out.old) (K.faults out.new) }
+    ensures failed { result ≡ Err SinkFailed → Rose (K.faults out.old) (K.faults out.new) }
 {
     match why {
         StartEnd::PowerLost => print(&Item::Cut, out),

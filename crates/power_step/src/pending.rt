@@ -1,6 +1,7 @@
 // The sectors that had a put pending when power was lost.
-ghost use Rattle.std.specs.Prelude.{◌≡◌, ◌≤◌, ◌<◌, All, IfSome, IsSome, OnOk, length, true, vec_capacity};
-ghost use Rattle.storage_model.specs.Count.{Later};
+ghost use Rattle.std.specs.Prelude.{◌≡◌, ◌≤◌, ◌<◌, All, Err, IfSome, IsSome, OnOk, length, true, vec_capacity};
+ghost use Rattle.storage_model.specs.Count.{Later, Rose};
+ghost use Rattle.storage_model.specs.declared.ends.Halt.TheVariants.{SinkFailed};
 ghost use Rattle.array_edge.specs.Array.{ArrayState};
 ghost use Rattle.card_store.specs.Store.{Contents, IsFirstFrom, IsOpen, IsStore, Stands, has_put as has_put_there};
 ghost use Rattle.left_laws.specs.Lines.{put_sectors};
@@ -71,6 +72,7 @@ impl Pending {
         ensures left { LeftWritten K.took self.now out.old card.old (A.state array.old) result out.new card.new (A.state array.new) }
         ensures store { OnOk result (IsStore card.new.store) }
         ensures faults { Later (K.faults out.old) (K.faults out.new) }
+        ensures failed { result ≡ Err SinkFailed → Rose (K.faults out.old) (K.faults out.new) }
     {
         print_left(self.sectors.as_slice(), card, array, out)
     }

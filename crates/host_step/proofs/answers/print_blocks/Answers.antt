@@ -1,4 +1,5 @@
-use Rattle.std.proofs.Common.{◌≡◌, ◌∙◌, sym, ap, map, [], ◌∷◌, ◌+◌, ◌-◌}
+use Rattle.std.proofs.Common.{◌≡◌, ◌∙◌, arith, sym, ap, map, [], ◌∷◌, ◌+◌, ◌-◌}
+use Rattle.std.proofs.lemmas.Grind.{common_steps}
 use Rattle.std.proofs.lemmas.Result.{err_from_is_err_and}
 use Rattle.std.specs.List.{range_with_len}
 use Rattle.io_edge.specs.Sink.{Joins}
@@ -21,7 +22,7 @@ returns-in_err-print-clause-takes g c =
     rw (p.1, p.2)
     (failed_amid g.K.Sink.took both c.args.out.now c.loop-k.out c.print.new.out (map Sector (map f (range_with_len 0 k))) (Sector c.read_block.new.block ∷ [])
     (map Sector (map f (range_with_len (k + 1) (c.args.blocks - (k + 1))))) _ _ c.in_err-print.ensures.halt
-    (sectors_around f c.args.blocks k c.read_block.new.block c.loop-k-test.true value) c.loop-k.invariant c.in_err-print.ensures.takes)
+    (sectors_around f c.args.blocks k c.read_block.new.block c.loop-k-test.true value) c.loop-k.invariant.taken c.in_err-print.ensures.takes)
 
 pub loop-k-preserved : goal.loop-k-preserved
 loop-k-preserved g c =
@@ -31,5 +32,8 @@ loop-k-preserved g c =
     let value : c.read_block.new.block ≡ block_of c.args.path.now.memory (tag_pieces (layout c.args.path.now) c.args.tag c.args.blocks) k =
     rw (sym c.path.view_is)
     (c.read_block.ensures c.args.blocks c.loop-k-test.true c.requires.few ∙ ap (λ l. block_of c.path.inside.mem (tag_pieces l c.args.tag c.args.blocks) k) c.layout-layout.ensures) in
-    taken_more g.K.Sink.took both c.args.out.now c.loop-k.out c.print.new.out (map Sector (map f (range_with_len 0 k))) (Sector c.read_block.new.block ∷ []) _
-    (sectors_more f k c.read_block.new.block value) c.loop-k.invariant c.in_ok-print.ensures.takes
+    record {
+      taken = taken_more g.K.Sink.took both c.args.out.now c.loop-k.out c.print.new.out (map Sector (map f (range_with_len 0 k))) (Sector c.read_block.new.block ∷ []) _
+          (sectors_more f k c.read_block.new.block value) c.loop-k.invariant.taken c.in_ok-print.ensures.takes;
+      faults = grind (arith, common_steps);
+    }

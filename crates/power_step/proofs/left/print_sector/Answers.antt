@@ -14,7 +14,7 @@ returns-then-sector-sectors-clause-sector g c =
 pub returns-in_err-print-in-Err-clause-sector : goal.returns-in_err-print-in-Err-clause-sector
 returns-in_err-print-in-Err-clause-sector g c =
     let e = c.in-Err.ensures in
-    let read = is_read c.args.card.now (g.A.Array.state c.args.array.now) c.read.new.self (g.A.Array.state c.read.new.array) e.open e.card e.store e.same e.ends.faults e.turns in
+    let read = is_read c.args.card.now (g.A.Array.state c.args.array.now) c.read.new.self (g.A.Array.state c.read.new.array) e.open e.card e.store e.same e.ends.faults e.turns e.cache in
     let p = err_from_is_err_and c.from_residual.result c.from_residual.ensures.1 in
     rw (p.1, p.2)
     (sector_broken g.K.Sink.took c.args.sector c.args.card.now (g.A.Array.state c.args.array.now) c.args.out.now c.print-in-Err.new.out c.read.new.block c.read.new.self (g.A.Array.state c.read.new.array) read _ (Off Fault)
@@ -23,12 +23,12 @@ returns-in_err-print-in-Err-clause-sector g c =
 pub returns-in-Ok-clause-sector : goal.returns-in-Ok-clause-sector
 returns-in-Ok-clause-sector g c =
     let e = c.in-Ok.ensures in
-    let read = is_read c.args.card.now (g.A.Array.state c.args.array.now) c.read.new.self (g.A.Array.state c.read.new.array) e.open e.card e.store e.same e.ends.faults e.turns in
+    let read = is_read c.args.card.now (g.A.Array.state c.args.array.now) c.read.new.self (g.A.Array.state c.read.new.array) e.open e.card e.store e.same e.ends.faults e.turns e.cache in
     sector_printed g.K.Sink.took c.args.sector c.args.card.now (g.A.Array.state c.args.array.now) c.args.out.now c.print.new.out c.read.new.block c.read.new.self (g.A.Array.state c.read.new.array) read c.print.result e.ok c.print.ensures.takes c.print.ensures.halt
 
 pub returns-in_ok-print-in-Err-clause-sector : goal.returns-in_ok-print-in-Err-clause-sector
 returns-in_ok-print-in-Err-clause-sector g c =
     let e = c.in-Err.ensures in
-    let read = is_read c.args.card.now (g.A.Array.state c.args.array.now) c.read.new.self (g.A.Array.state c.read.new.array) e.open e.card e.store e.same e.ends.faults e.turns in
+    let read = is_read c.args.card.now (g.A.Array.state c.args.array.now) c.read.new.self (g.A.Array.state c.read.new.array) e.open e.card e.store e.same e.ends.faults e.turns e.cache in
     sector_unread g.K.Sink.took c.args.sector c.args.card.now (g.A.Array.state c.args.array.now) c.args.out.now c.print-in-Err.new.out c.read.new.block c.read.new.self (g.A.Array.state c.read.new.array) read
     (read_failed c.in-Err.field-0 (g.A.Array.state c.args.array.now) (g.A.Array.state c.read.new.array) c.requires.powered e.same e.ends) c.in_ok-print-in-Err.ensures.takes
