@@ -33,11 +33,14 @@ use Rattle.storage_model.specs.declared.trace.Item.TheVariants.{Off}
 use Rattle.trace_effects.specs.Effects.{after_off, effect}
 use Rattle.trace_effects.specs.Phases.{after_keep, puts_of}
 use Rattle.trace_rules.specs.Lines.{holds, line_rule, off_holds}
+use Rattle.end_laws.proofs.Flushed.{bare_of, stands_after}
 use Rattle.end_laws.specs.Ends.{EndsByFlush, MayEnd}
 use Rattle.power_laws.proofs.NothingToDo.{no_phase}
+use Rattle.power_laws.specs.Power.{FlushEvent, FlushSteps}
 use Rattle.world_state.specs.Path.{PathState, under_way}
 use Rattle.world_state.specs.Reading.{Context, state_of}
-use Rattle.world_state.specs.Stands.{IsNear, contents_of, first_puts, marks_moved_by, puts_on}
+use Rattle.world_state.specs.Stands.{Agrees, IsNear, Stands, first_puts, puts_on}
+use Rattle.world_state.specs.Ties.{AreTied}
 
 -- ---- the end's line
 
@@ -146,12 +149,14 @@ ok_also : {T E : Type 0} (result : Result T E) (P Q : Type 0) → (P → Q) → 
 ok_also (Ok x) P Q also h = also h
 ok_also (Err e) P Q also h = tt
 
-may_end : (s : State) (p : PathState) (a : ArrayState) (p' : PathState) (a' : ArrayState) (result : Result (Unit {0}) StoreEnd) → s.owed ≡ Nothing → to_do s ≡ false → Shows s.base s.pend a' result → MayEnd p a p' a' result s
-may_end s p a p' a' result free none shows = record {
+may_end : (s : State) (p : PathState) (o : OrderState) (a : ArrayState) (p' : PathState) (a' : ArrayState) (result : Result (Unit {0}) StoreEnd) → s.owed ≡ Nothing → to_do s ≡ false → Shows s.base s.pend a' result
+    → OnOk result (Stands p' o a' (effect s (Off Good))) → MayEnd p o a p' a' result s
+may_end s p o a p' a' result free none shows stands = record {
   good = on_ok result (line_rule s (Off Good) ≡ None) (good_stands s free none);
   kept =
       ok_also result (IfSome (shown_by a') (λ pages. pages ≡ keep_base every_sector s.base s.pend)) (IfSome (shown_by a') (λ pages. pages ≡ (effect s (Off Good)).base))
       (subst (λ (base : List Block). IfSome (shown_by a') (λ pages. pages ≡ base)) (sym (kept_by_end s))) shows.whole;
+  stands = stands;
   fault = λ failed. fault_stands s free none;
   near = all_near s (shown_by a') shows.left;
   near_fault = λ failed. near_fault s (shown_by a') shows.left;
@@ -165,17 +170,19 @@ shows_of : (p : PathState) (o : OrderState) (c : Context) (a' : ArrayState) (res
 unfolding state_of
 shows_of p o c a' result shows = shows
 
--- no block is on its way
-abbrev contents_with : List Block → List Mark → Contents
-contents_with base pend = record { base = base; pend = pend }
+-- behind a good flush the path stands for the state behind the line
+stands_by : (p : PathState) (o : OrderState) (a : ArrayState) (c : Context) (p' : PathState) (a' : ArrayState) (result : Result (Unit {0}) StoreEnd) → Agrees p a c → under_way p ≡ None → AreTied p'
+    → FlushEvent p a p' a' result → StoreStands (record { base = c.base; pend = c.pend }) p.card.store a → Shows c.base c.pend a' result → OnOk result (Stands p' o a' (effect (state_of p o c) (Off Good)))
+stands_by p o a c p' a' (Err end) agrees way tied event stands shows = tt
+stands_by p o a c p' a' (Ok done) agrees way tied event stands shows =
+    subst (λ q. AreTied q → Stands q o a' (effect (state_of p o c) (Off Good))) (sym event.stored.path)
+    (λ tied. stands_after p o a c agrees way p'.card.store a' event.stored.same tied event.ends.tells (event.ok (record { base = c.base; pend = c.pend }) stands) shows.whole) tied
 
-bare_of : (p : PathState) (c : Context) → under_way p ≡ None → contents_of p c ≡ contents_with c.base c.pend
-bare_of p c way = ap (λ w. contents_with c.base (c.pend ++ marks_moved_by p w)) way ∙ ap (contents_with c.base) (append-nil c.pend)
-
-pub ends_by_flush : EndsByFlush
-ends_by_flush w a p' a' result c event agrees none =
+pub ends_by_flush : FlushSteps → EndsByFlush
+ends_by_flush steps w a p' a' result c event agrees none =
     let p : PathState = w.path in
     let way : under_way p ≡ None = no_phase p w.order c (under_way p) refl agrees.tied none in
-    let stands : StoreStands (contents_with c.base c.pend) p.card.store a = subst (λ (x : Contents). StoreStands x p.card.store a) (bare_of p c way) agrees.store in
-    may_end (state_of p w.order c) p a p' a' result (free_of p w.order c) none
-    (shows_of p w.order c a' result (shows_by c.base c.pend p.card.store p'.card.store a a' result event.ok event.err stands))
+    let stands = subst (λ (x : Contents). StoreStands x p.card.store a) (bare_of p c way) agrees.store in
+    let shows = shows_by c.base c.pend p.card.store p'.card.store a a' result event.ok event.err stands in
+    may_end (state_of p w.order c) p w.order a p' a' result (free_of p w.order c) none (shows_of p w.order c a' result shows)
+    (stands_by p w.order a c p' a' result agrees way (steps p a p' a' result event agrees.tied).ties event stands shows)

@@ -1,3 +1,4 @@
 mod Fresh
 mod Opened
 mod Ends
+mod Flushed

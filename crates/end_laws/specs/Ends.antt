@@ -16,7 +16,7 @@ use Rattle.bus_link.specs.Script.{at_start as script_at_start}
 use Rattle.card_core.specs.Card.{idle_card}
 use Rattle.cq_engine.specs.Outcome.{holds_nothing}
 use Rattle.cq_regs.specs.Effects.{at_reset}
-use Rattle.cut_order.specs.Order.{fresh}
+use Rattle.cut_order.specs.Order.{OrderState, fresh}
 use Rattle.dark_laws.specs.Anew.{IsSetAnew, Outlasts}
 use Rattle.drv_core.specs.State.{at_start}
 use Rattle.intent_store.specs.Intent.{shown_by}
@@ -25,7 +25,7 @@ use Rattle.intent_store.specs.declared.ends.StoreEnd.TheVariants.{Flash}
 use Rattle.power_laws.specs.Power.{FlushEvent}
 use Rattle.world_state.specs.Path.{PathState, layout}
 use Rattle.world_state.specs.Reading.{Context, state_of}
-use Rattle.world_state.specs.Stands.{Agrees, IsNear}
+use Rattle.world_state.specs.Stands.{Agrees, IsNear, Stands}
 use Rattle.world_steps.specs.World.{StandsFor, WorldState}
 use Rattle.drv_ring.specs.Layout.{HasLayout}
 use Rattle.storage_model.specs.Faults.{IsHit, IsValidHits}
@@ -68,9 +68,10 @@ StandsOpened =
     → StandsFor w' a' (opened base plan faults)
 
 -- where nothing is to do, the end's line may stand: a good end where all is kept, and a fault's
-pub record MayEnd (p : PathState) (a : ArrayState) (p' : PathState) (a' : ArrayState) (result : Result (Unit {0}) StoreEnd) (s : State) : Type 0 where
+pub record MayEnd (p : PathState) (o : OrderState) (a : ArrayState) (p' : PathState) (a' : ArrayState) (result : Result (Unit {0}) StoreEnd) (s : State) : Type 0 where
   pub good : OnOk result (line_rule s (Off Good) ≡ None)
   pub kept : OnOk result (IfSome (shown_by a') (λ pages. pages ≡ (effect s (Off Good)).base))
+  pub stands : OnOk result (Stands p' o a' (effect s (Off Good)))
   pub fault : IsErrOf result Flash → line_rule s (Off Fault) ≡ None
   pub near : IfSome (shown_by a') (IsNear s)
   pub near_fault : IsErrOf result Flash → IfSome (shown_by a') (IsNear (effect s (Off Fault)))
@@ -79,4 +80,4 @@ abbrev pub EndsByFlush : Type 0
 EndsByFlush =
     (w : WorldState) (a : ArrayState) (p' : PathState) (a' : ArrayState) (result : Result (Unit {0}) StoreEnd) (c : Context)
     → FlushEvent w.path a p' a' result → Agrees w.path a c → to_do (state_of w.path w.order c) ≡ false
-    → MayEnd w.path a p' a' result (state_of w.path w.order c)
+    → MayEnd w.path w.order a p' a' result (state_of w.path w.order c)

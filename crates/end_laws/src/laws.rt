@@ -2,6 +2,7 @@
 ghost use Rattle.end_laws.specs.Ends.{EndsByFlush, IsSoundFresh, StandsOpened};
 
 use dark_laws::back_again;
+use power_laws::power_and_card_make_events;
 
 /// The path of a run before its first line is sound.
 #[tactic(auto)]
@@ -18,8 +19,10 @@ pub fn runs_stand_opened()
 }
 
 /// Where nothing is to do, the end's line may come behind the last flush, and behind a good one the pages are what the storage
-/// machine kept.
+/// machine kept, and path and array stand for its state.
 #[tactic(auto)]
 pub fn runs_end_by_flush()
     ensures { EndsByFlush }
-{}
+{
+    power_and_card_make_events();
+}

@@ -1,36 +1,36 @@
 -- A step from an event of an actor, whoever it is: what is known of the event's lines, and how they were written.
-use Rattle.std.proofs.Common.{◌≡◌, ◌∙◌, ℕ, ◌++◌, ◌⊎◌, inl, inr, Bool, true, false, if◌then◌else◌, IfSome, List, [], ◌∷◌, Result, Ok, Err, OnOk, refl, sym, ap, subst, append_assoc}
+use Rattle.std.proofs.Common.{◌≡◌, ℕ, ◌++◌, inl, inr, Bool, true, false, if◌then◌else◌, List, [], ◌∷◌, Result, Ok, Err, refl, sym, subst}
 use Rattle.std.proofs.lemmas.List.{append-nil}
 use Rattle.storage_machine.specs.declared.state.State.{State}
 use Rattle.storage_model.specs.declared.ends.Halt.{Halt}
 use Rattle.storage_model.specs.declared.ends.Halt.TheVariants.{SinkFailed, OpenFault, PowerGone, BadImage}
 use Rattle.storage_model.specs.declared.faults.Letter.{Letter}
 use Rattle.storage_model.specs.declared.trace.End.{End}
+use Rattle.storage_model.specs.declared.trace.End.TheVariants.{Fault, Dead, Image}
 use Rattle.storage_model.specs.declared.trace.Item.{Item}
 use Rattle.storage_model.specs.declared.trace.Item.TheVariants.{Cut, Off, Turn}
 use Rattle.storage_runs.specs.Runs.{StaysSo, shown}
 use Rattle.trace_effects.specs.Effects.{effect}
 use Rattle.io_edge.specs.Sink.{Joins}
 use Rattle.array_edge.specs.Array.{ArrayState}
-use Rattle.intent_store.specs.Intent.{shown_by}
 use Rattle.trace_print.specs.Prints.{Breaks, HasCauses}
 use Rattle.trace_text.specs.Trace.{items_text}
 use Rattle.cause_laws.specs.Causes.{AreJoined}
 use Rattle.cut_order.specs.Order.{OrderState, order_of}
 use Rattle.front_laws.specs.Fronts.{FrontsNear}
 use Rattle.join_laws.specs.Joins.{DarkIn, EndsRun, OwnLines, before, within}
-use Rattle.join_laws.specs.Joins.{GoesOn as LeadsOn}
 use Rattle.power_step.specs.Loses.{HasEnd, Leaves, Loses, LosesPower}
-use Rattle.power_step.specs.Wrote.{TakesPart, Wrote}
+use Rattle.power_step.specs.Wrote.{TakesPart}
 use Rattle.world_state.specs.Path.{PathState}
-use Rattle.world_state.specs.Reading.{Context, state_of}
-use Rattle.world_state.specs.Stands.{Agrees, IsNear}
+use Rattle.world_state.specs.Reading.{Context}
+use Rattle.world_state.specs.Stands.{Agrees}
 use Rattle.world_state.specs.Told.{IsLosing, StaysDark, Told}
-use Rattle.world_steps.specs.Steps.{Begun, Shown, StepTells}
+use Rattle.world_steps.specs.Steps.{Begun, StepTells}
 use Rattle.world_steps.specs.World.{StandsFor, WorldState, order_behind, order_in, shows_letter, uses_line}
 use Rattle.join_laws.specs.Fronts.{Stopped}
+use Rattle.step_laws.proofs.EndLines.{end_behind}
 use Rattle.step_laws.proofs.Lines.{broken_part, shown_is, part_behind, wrote_behind}
-use Rattle.step_laws.specs.Acts.{BrokeOff, WentDark, WentWell, Written}
+use Rattle.step_laws.specs.Acts.{Written}
 use Rattle.step_laws.specs.Laws.{AreLines}
 use Rattle.step_laws.specs.Steps.{Steps, behind_step, cuts_allowed, letter_lines}
 
@@ -73,6 +73,7 @@ module _ {K : Type 0} (took : K → List ℕ → K → Type 0) (both : Joins too
     tells = for_state (λ s. StepTells w s actor (letter_lines w actor ++ items) (Ok tt) (behind_step w actor p1) a1)
         (λ c agrees. subst (λ xs. StepTells w (before w c) actor xs (Ok tt) (behind_step w actor p1) a1) (as_lines c agrees items)
         (lines.lit w c actor items p1 a1 (acting.own c agrees) (acting.unused lit) (acting.lit lit c agrees)));
+    ends = tt;
     causes = behind_letter a1 items (Ok tt) (acting.all lit);
   }
 
@@ -95,6 +96,7 @@ module _ {K : Type 0} (took : K → List ℕ → K → Type 0) (both : Joins too
           subst (λ xs. Begun w (before w c) actor xs stopped.last) (as_lines c agrees b.whole) stopped.begun,
           acting.near (order_in w actor) c agrees b.whole b.item b.rest b.are stopped.last stopped.starts,
         ));
+    ends = tt;
     causes = behind_letter a1 b.whole (Err SinkFailed) (acting.front b.whole (b.item ∷ b.rest) b.are);
   }
 
@@ -109,6 +111,7 @@ module _ {K : Type 0} (took : K → List ℕ → K → Type 0) (both : Joins too
         let d = acting.dark dark c agrees in
         let stopped = lines.stopped_at_cut w c actor items p1 a1 (acting.own c agrees) d in
         inr (d.last, subst (λ xs. Begun w (before w c) actor xs d.last) (as_lines c agrees items) stopped.0, stopped.1));
+    ends = tt;
     causes = behind_letter a1 items (Err SinkFailed) (acting.front items [] (sym (append-nil items)));
   }
 
@@ -128,11 +131,11 @@ module _ {K : Type 0} (took : K → List ℕ → K → Type 0) (both : Joins too
       let stopped = lines.stopped_behind w c actor items p1 a1 more a' (acting.own c agrees) d (leaves d.last (order_in w actor) d.losing) (stays d.last (order_in w actor) d.losing) in
       inr (stopped.last, stopped.begun, stopped.near)
   leads c agrees d more (Err OpenFault) p' a' end leaves stays =
-      ends c agrees d more p' a' end.0 end.1 end.2 (leaves d.last (order_in w actor) d.losing) (stays d.last (order_in w actor) d.losing)
+      ends c agrees d more p' a' end.0 Fault end.1 (leaves d.last (order_in w actor) d.losing) (stays d.last (order_in w actor) d.losing)
   leads c agrees d more (Err PowerGone) p' a' end leaves stays =
-      ends c agrees d more p' a' end.0 end.1 end.2 (leaves d.last (order_in w actor) d.losing) (stays d.last (order_in w actor) d.losing)
+      ends c agrees d more p' a' end.0 Dead end.1 (leaves d.last (order_in w actor) d.losing) (stays d.last (order_in w actor) d.losing)
   leads c agrees d more (Err BadImage) p' a' end leaves stays =
-      ends c agrees d more p' a' end.0 end.1 end.2 (leaves d.last (order_in w actor) d.losing) (stays d.last (order_in w actor) d.losing)
+      ends c agrees d more p' a' end.0 Image end.1 (leaves d.last (order_in w actor) d.losing) (stays d.last (order_in w actor) d.losing)
 
   loses : (old mid late new : K) (result : Result (Unit {0}) Halt) (p' : PathState) (a' : ArrayState) → took old (items_text (letter_lines w actor)) mid → took mid (items_text items) late → lost ≡ true
       → LosesPower took p1 a1 late result p' a' new → Steps took w actor a old result (behind_step w actor p') a' new
@@ -143,6 +146,7 @@ module _ {K : Type 0} (took : K → List ℕ → K → Type 0) (both : Joins too
     tells = for_state (λ s. StepTells w s actor (letter_lines w actor ++ (items ++ Cut ∷ l.items)) result (behind_step w actor p') a') (λ c agrees.
         subst (λ xs. StepTells w (before w c) actor xs result (behind_step w actor p') a') (as_lines c agrees (items ++ Cut ∷ l.items))
         (leads c agrees (acting.dark dark c agrees) l.items result p' a' l.end l.leaves l.stays));
+    ends = end_behind result (letter_lines w actor) (items ++ Cut ∷ l.items) (end_behind result items (Cut ∷ l.items) (end_behind result (Cut ∷ []) l.items l.end));
     causes = behind_letter a' (items ++ Cut ∷ l.items) result (acting.cut dark a' l.items result l.causes);
   }
 

@@ -1,5 +1,5 @@
 -- The events of host, engine, card and power as steps.
-use Rattle.std.proofs.Common.{◌≡◌, ◌∙◌, ℕ, ◌++◌, ◌⊎◌, inl, inr, Bool, true, false, List, [], ◌∷◌, Option, Result, Ok, Err, OnOk, refl, sym, ap, subst, append_assoc, true≢false}
+use Rattle.std.proofs.Common.{◌≡◌, ◌∙◌, ℕ, ◌++◌, inl, inr, Bool, true, false, List, [], ◌∷◌, Option, Result, Ok, Err, OnOk, refl, sym, ap, subst, append_assoc, true≢false}
 use Rattle.storage_model.specs.declared.ends.Halt.{Halt}
 use Rattle.storage_model.specs.declared.ends.Halt.TheVariants.{SinkFailed}
 use Rattle.storage_model.specs.declared.faults.Letter.{Letter}
@@ -21,14 +21,12 @@ use Rattle.join_laws.specs.Joins.{DarkIn, OwnLines, before, within}
 use Rattle.power_laws.specs.Power.{CardEvent, CardStep, card_lines, is_lost, phase_cut}
 use Rattle.power_step.specs.Loses.{IsBackOn}
 use Rattle.trace_print.specs.Prints.{HasCauses}
-use Rattle.trace_text.specs.Trace.{items_text}
 use Rattle.world_state.specs.Engine.{EngineEvent, engine_lines, is_dark}
 use Rattle.world_state.specs.Host.{HostEvent, host_lines}
 use Rattle.world_state.specs.Path.{PathState, plan_of}
-use Rattle.world_state.specs.Reading.{Context, state_of}
+use Rattle.world_state.specs.Reading.{Context}
 use Rattle.world_state.specs.Stands.{Agrees}
 use Rattle.world_state.specs.Steps.{EngineStep, HostStep, is_of_phase}
-use Rattle.world_state.specs.Ties.{AreTied, IsReady}
 use Rattle.world_state.specs.Told.{Told}
 use Rattle.world_steps.specs.Reading.{PhasesYield, Reads, StaysPrompt}
 use Rattle.world_steps.specs.World.{IsPrompt, WorldState, chosen_of, order_behind, order_in}
@@ -36,9 +34,9 @@ use Rattle.step_laws.proofs.Acting.{Acting, stepped}
 use Rattle.step_laws.proofs.Back.{anew_behind, darkened_taken, prompt_anew, script_same}
 use Rattle.step_laws.proofs.Orders.{order_used, to_do_in}
 use Rattle.step_laws.proofs.Plain.{ArePlain, card_plain, cut_caused, cut_plain, engine_plain, host_plain, plain_all}
-use Rattle.step_laws.specs.Acts.{CardActed, EngineActed, HostActed, PowerActed, WentDark, Written, left_by, taken_from}
+use Rattle.step_laws.specs.Acts.{CardActed, EngineActed, HostActed, PowerActed, Written, left_by, taken_from}
 use Rattle.step_laws.specs.Laws.{AreLaws, DoStep, MaySteps}
-use Rattle.step_laws.specs.Steps.{GoesOn, IsStep, Steps, behind_step, cuts_allowed, letter_lines}
+use Rattle.step_laws.specs.Steps.{GoesOn, behind_step, cuts_allowed}
 
 not_engine : EngineActs ≡ HostActs → ⊥
 not_engine is = cc
@@ -104,6 +102,7 @@ module _ (l : AreLaws) (w : WorldState) (a : ArrayState) (may : MaySteps w a) wh
       ready = record { tied = host_step.ties; is_open = event.fits; powered = host_explained.1 };
       plan = event.plan;
       prompt = λ is prompt. (prompts prompt).host a p' a' act event is;
+      order = refl;
       falls = λ is. falls.host a p' a' act event host_step.ties is;
     }
 
@@ -144,6 +143,7 @@ module _ (l : AreLaws) (w : WorldState) (a : ArrayState) (may : MaySteps w a) wh
       ready = record { tied = engine_step.ties lit; is_open = event.fits; powered = (engine_explained false lit).1 };
       plan = ap (λ d. d.requests.plan) event.driver;
       prompt = λ is prompt. (prompts prompt).engine a p1 a1 did phase event is;
+      order = refl;
       falls = λ is. falls.engine l.causes.errors a p1 a1 did phase event (engine_step.ties lit) lit is;
     }
 
@@ -155,6 +155,7 @@ module _ (l : AreLaws) (w : WorldState) (a : ArrayState) (may : MaySteps w a) wh
           ready = back.ready;
           plan = back.plan ∙ ap (λ d. d.requests.plan) of.driver;
           prompt = λ is prompt. prompt_anew w.path p' (order_behind w EngineActs) anew;
+          order = refl;
           falls = λ is. falls.lost EngineActs p' anew is not_engine (λ _. of.some);
         }
 
@@ -168,6 +169,7 @@ module _ (l : AreLaws) (w : WorldState) (a : ArrayState) (may : MaySteps w a) wh
         ready = back.ready;
         plan = back.plan ∙ ap (λ d. d.requests.plan) driver;
         prompt = λ is prompt. prompt_anew w.path p' (order_behind w actor) anew;
+        order = refl;
         falls = λ is. falls.lost actor p' anew is host (λ engine. absurd (other engine));
       }
 
@@ -220,6 +222,7 @@ module _ (l : AreLaws) (w : WorldState) (a : ArrayState) (may : MaySteps w a) wh
       ready = record { tied = card_step.ties; is_open = event.stored.fits; powered = (card_explained false lit).1 };
       plan = ap plan_of event.stored.path;
       prompt = λ is prompt. (prompts prompt).card p1 stored is;
+      order = refl;
       falls = λ is. falls.card p1 stored is;
     }
       where

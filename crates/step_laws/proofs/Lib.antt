@@ -1,3 +1,4 @@
+pub mod EndLines
 pub mod Lines
 pub mod Acting
 pub mod Orders

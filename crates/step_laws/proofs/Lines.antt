@@ -6,7 +6,7 @@ use Rattle.storage_model.specs.declared.ends.Halt.TheVariants.{SinkFailed, OpenF
 use Rattle.storage_model.specs.declared.faults.Letter.{Letter}
 use Rattle.storage_model.specs.declared.trace.Item.{Item}
 use Rattle.storage_model.specs.declared.trace.Item.TheVariants.{Turn}
-use Rattle.storage_runs.specs.Runs.{is_shown, shown}
+use Rattle.storage_runs.specs.Runs.{shown}
 use Rattle.io_edge.specs.Sink.{Joins}
 use Rattle.trace_print.proofs.Joined.{taken_behind}
 use Rattle.trace_print.specs.Prints.{Breaks}

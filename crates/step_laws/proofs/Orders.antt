@@ -1,7 +1,7 @@
 -- What of letters and `cut` lines is used behind an event.
 use Rattle.std.proofs.Common.{◌≡◌, ◌∙◌, Bool, true, false, not, if◌then◌else◌, List, refl, ap}
 use Rattle.std.proofs.lemmas.Bool.{and_right}
-use Rattle.storage_machine.specs.Cuts.{is_due, sent_so_far}
+use Rattle.storage_machine.specs.Cuts.{sent_so_far}
 use Rattle.storage_machine.specs.Host.{to_do}
 use Rattle.storage_model.specs.declared.faults.Letter.{Letter}
 use Rattle.storage_model.specs.declared.faults.Letter.TheVariants.{Host, Engine, Card, Cut as Power}

@@ -1,9 +1,8 @@
 -- Lines that tell no value that is left, no cut and no fault of the flash.
-use Rattle.std.proofs.Common.{◌≡◌, ℕ, ◌+◌, ◌-◌, ◌++◌, Bool, true, false, if◌then◌else◌, ◌||◌, ◌==◌, List, [], ◌∷◌, All, map, flat_map, Ok, Err, Option, Some, None, Result, inl, refl, sym, ap, subst, arith}
+use Rattle.std.proofs.Common.{◌≡◌, ℕ, ◌++◌, Bool, true, false, if◌then◌else◌, List, [], ◌∷◌, All, map, flat_map, Ok, Err, Option, Some, None, Result, inl, refl, arith}
 use Rattle.std.proofs.lemmas.List.Elements.{All-cons, All-nil}
 use Rattle.storage_model.specs.Count.{Count, Later}
 use Rattle.storage_model.specs.declared.block.Block.{Block}
-use Rattle.storage_model.specs.declared.faults.BusKind.{BusKind}
 use Rattle.storage_model.specs.declared.plan.Job.{Job}
 use Rattle.storage_model.specs.declared.plan.Job.TheVariants.{Read, Write, Flush, Barrier, Status}
 use Rattle.storage_model.specs.declared.trace.Item.{Item}
@@ -31,7 +30,7 @@ use Rattle.join_laws.specs.Joins.{tells_left}
 use Rattle.power_laws.specs.Power.{card_lines, phase_cut}
 use Rattle.trace_print.specs.Prints.{HasCauses}
 use Rattle.world_state.specs.Engine.{broken_phase, command_lines, engine_lines, id_at, phase_line_of, shows_phase, stop_lines}
-use Rattle.world_state.specs.Host.{answer_at, answer_of_holder, answer_of_job, collect_lines, fault_lines, host_lines, step_lines}
+use Rattle.world_state.specs.Host.{answer_at, answer_of_holder, answer_of_job, fault_lines, host_lines, step_lines}
 use Rattle.world_state.specs.Path.{PathState, holder, job}
 use Rattle.world_state.specs.Reading.{blocks_held}
 

@@ -1,12 +1,11 @@
 -- What is known of events, their lines and their causes, and what follows of a step.
-use Rattle.std.specs.Prelude.{◌≡◌, true, ℕ, List, Option, Result, OnOk}
+use Rattle.std.specs.Prelude.{◌≡◌, true, ℕ, List, Result}
 use Rattle.storage_model.specs.declared.ends.Halt.{Halt}
 use Rattle.storage_model.specs.declared.faults.Letter.{Letter}
 use Rattle.storage_model.specs.declared.faults.Letter.TheVariants.{Host as HostActs, Engine as EngineActs, Card as CardActs, Cut as PowerActs}
 use Rattle.storage_model.specs.declared.trace.End.{End}
 use Rattle.storage_model.specs.declared.trace.Item.{Item}
 use Rattle.trace_text.specs.Trace.{items_text}
-use Rattle.io_edge.specs.Sink.{Joins}
 use Rattle.array_edge.specs.Array.{ArrayState}
 use Rattle.cause_laws.specs.Causes.{AreExplained, AreJoined}
 use Rattle.cause_laws.specs.Falls.{DarkIsOfRequest, DoStepsFall, StopsByErrors}

@@ -1,15 +1,14 @@
 -- What a step of a run promises: its lines, what they tell of each state that the run stood for, what has to have happened, and that the run goes on.
-use Rattle.std.specs.Prelude.{◌≡◌, ◌<◌, ◌++◌, ◌∷◌, ℕ, if◌then◌else◌, List, [], OnOk, Result, Ok, Err}
+use Rattle.std.specs.Prelude.{◌≡◌, ◌<◌, ◌∷◌, ℕ, if◌then◌else◌, List, [], OnOk, Result}
 use Rattle.storage_machine.specs.declared.state.State.{State}
 use Rattle.storage_model.specs.declared.ends.Halt.{Halt}
-use Rattle.storage_model.specs.declared.ends.Halt.TheVariants.{SinkFailed}
 use Rattle.storage_model.specs.declared.faults.Letter.{Letter}
 use Rattle.storage_model.specs.declared.faults.Letter.TheVariants.{Cut as PowerActs}
 use Rattle.storage_model.specs.declared.trace.Item.{Item}
 use Rattle.storage_model.specs.declared.trace.Item.TheVariants.{Turn}
 use Rattle.trace_print.specs.Prints.{HasCauses}
-use Rattle.trace_text.specs.Trace.{items_text}
 use Rattle.array_edge.specs.Array.{ArrayState}
+use Rattle.power_step.specs.Loses.{HasEnd}
 use Rattle.power_step.specs.Wrote.{Wrote}
 use Rattle.world_state.specs.Path.{PathState, plan_of}
 use Rattle.world_state.specs.Ties.{IsReady}
@@ -30,12 +29,14 @@ pub record Steps {K : Type 0} (took : K → List ℕ → K → Type 0) (w : Worl
   pub lines : List Item
   pub wrote : Wrote took old lines result new
   pub tells : (s : State) → StandsFor w a s → StepTells w s actor lines result w' a'
+  pub ends : HasEnd lines result
   pub causes : HasCauses (cuts_allowed actor) a a' lines result
 
 -- where it went well the run is ready for the next step, and less is left to do where each step is the next one
 pub record GoesOn (w : WorldState) (actor : Letter) (w' : WorldState) (a' : ArrayState) : Type 0 where
   pub ready : IsReady w'.path a'
   pub plan : plan_of w'.path ≡ plan_of w.path
+  pub order : w'.order ≡ order_behind w actor
   pub prompt : actor ≡ chosen_of w → IsPrompt w → IsPrompt w'
   pub falls : actor ≡ chosen_of w → left_to_do w'.path w'.order < left_to_do w.path w.order
 
