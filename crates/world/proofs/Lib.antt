@@ -1,0 +1,5 @@
+mod Boots
+mod Endings
+mod Letters
+mod Memory
+mod StepsTaken

@@ -1,0 +1,3 @@
+pub mod Begins
+pub mod First
+pub mod Runs
