@@ -7,11 +7,18 @@ use cqmmc_top::{new_pages, run_command, text_words};
 use io_edge::{AnySource, EmptySource, NoSource, StdSink, StdSource};
 use std::alloc::{AllocError, Global};
 use std::fs::{File, TryLockError};
+use std::io::{BufWriter, IsTerminal, Stdout};
 use std::os::fd::AsRawFd;
 use std::process::ExitCode;
 use std::{env, io};
 
 const PAGE_SIZE: u64 = 512;
+
+/// How many bytes of a trace are written at once.
+const PIECE_SIZE: usize = 65_536;
+
+/// The status where standard output failed.
+const STATUS_OF_SINK: u8 = 5;
 
 /// What an image that can't be opened has: enough for one sector, so that the answer is a fault of the array.
 const PAGES_OF_NONE: u32 = 9;
@@ -30,16 +37,36 @@ fn main(rt: HostRuntime) -> ExitCode {
         Err(_) => FileArray::failing(PAGES_OF_NONE),
     };
     let texts = text_words(&words);
-    let (status, _) = run_command(
+    let mut out = StdSink::over(standard_output(&rt));
+    let (status, _, _) = run_command(
         rt.alloc(),
         &words,
         array,
         &mut open_text(&rt, texts.get(0)),
         &mut open_text(&rt, texts.get(1)),
         &mut EmptySource::new(),
-        &mut StdSink::over(rt.stdout()),
+        &mut out,
     );
-    ExitCode::from(status)
+    match out.finish() {
+        Ok(()) => ExitCode::from(status),
+        Err(_) => ExitCode::from(STATUS_OF_SINK),
+    }
+}
+
+// Standard output, written in large pieces where it is no terminal. Without memory for a buffer each line is written by itself.
+fn standard_output(rt: &HostRuntime) -> BufWriter<Stdout> {
+    let capacity = if rt.stdout().is_terminal() {
+        0
+    } else {
+        PIECE_SIZE
+    };
+    match BufWriter::with_capacity(rt.alloc(), capacity, rt.stdout()) {
+        Ok(writer) => writer,
+        Err(_) => match BufWriter::with_capacity(rt.alloc(), 0, rt.stdout()) {
+            Ok(writer) => writer,
+            Err(_) => unreachable!(),
+        },
+    }
 }
 
 // The words behind the program's own name. None come where one isn't UTF-8.

@@ -1,51 +1,48 @@
 -- Why a run is refused, and what it begins with.
-use Rattle.std.specs.Prelude.{◌≡◌, ℕ, ◌+◌, nat_lt, Bool, false, All, List, Option, None, Some, position, vec_len}
-use Rattle.storage_model.specs.Count.{Count, Later}
-use Rattle.storage_model.specs.declared.plan.Job.{Job}
-use Rattle.storage_model.specs.declared.plan.Job.TheVariants.{Read, Write}
+use Rattle.std.specs.Prelude.{◌≡◌, ◌⊎◌, ◌≤◌, ℕ, ◌+◌, List, Option, true, count_by, not}
+use Rattle.storage_model.specs.Count.{Count, Rose}
+use Rattle.storage_model.specs.declared.faults.ArrayHit.{ArrayHit}
+use Rattle.storage_model.specs.declared.faults.Faults.{Faults}
 use Rattle.storage_model.specs.declared.plan.Plan.{Plan}
 use Rattle.array_edge.specs.Array.{ArrayState}
-use Rattle.intent_store.specs.Intent.{ShowsImage, shown_by}
+use Rattle.end_laws.specs.Ends.{IsFresh}
+use Rattle.intent_store.specs.Intent.{IsNoImage}
 use Rattle.cqmmc_top.specs.declared.prepare.Ready.{Ready}
 use Rattle.cqmmc_top.specs.declared.refusal.Refusal.{Refusal}
-use Rattle.cqmmc_top.specs.declared.refusal.Refusal.TheVariants.{BadRequests, NoMemory}
-use Rattle.cqmmc_top.specs.Opened.{IsOpen, HasSectors, OpeningRefused}
-use Rattle.cqmmc_top.specs.Serial.{IsServable}
-use Rattle.cqmmc_top.specs.Texts.{IsPlanOf, HasNoFaults, RequestsRefused, FaultsRefused}
+use Rattle.cqmmc_top.specs.declared.refusal.Refusal.TheVariants.{BadImage, ArrayFault, NoPower, NoMemory}
+use Rattle.cqmmc_top.specs.Texts.{AreFaultsOf, IsPlanOf, RequestsRefused, FaultsRefused}
 
--- whether a request ends past the last sector
-abbrev pub is_past : ℕ → Job → Bool
-is_past sectors (Read first all high) = nat_lt sectors (first + all)
-is_past sectors (Write first all fill forced reliable high) = nat_lt sectors (first + all)
-is_past sectors _ = false
+-- why a run isn't begun, in the order in which it is found out: by the request text, by the fault text, or by want of memory
+pub data IsUnready (requests : Option (List ℕ)) (first first' : Count) (fault_text : Option (List ℕ)) (second second' : Count) : Refusal → Type 0 where
+  by_requests : {refusal : Refusal} → RequestsRefused requests first first' refusal → IsUnready requests first first' fault_text second second' refusal
+  by_faults : {refusal : Refusal} {plan : Plan} → IsPlanOf requests plan → FaultsRefused fault_text second second' refusal → IsUnready requests first first' fault_text second second' refusal
+  by_memory : {plan : Plan} {faults : Faults} → IsPlanOf requests plan → AreFaultsOf fault_text faults → IsUnready requests first first' fault_text second second' NoMemory
 
--- the first request that does, by its line
-abbrev pub IsPastAt : ℕ → List Job → Refusal → Type 0
-IsPastAt sectors jobs (BadRequests line) = (place : ℕ) × (line ≡ place + 1) × (position (is_past sectors) jobs ≡ Some place)
-IsPastAt sectors jobs _ = ⊥
+-- how many lines of a fault text make a call of the array fail, and how many cut the power within one
+abbrev pub failing : List ArrayHit → ℕ
+failing hits = count_by (λ hit. not hit.cut) hits
 
--- Why a run is refused, in the order in which it is found out: by the request text, by the fault text, by the opening, at
--- the first request that ends past the last sector, or by want of memory. A refused text touches no page.
-pub data IsRunRefused (requests : Option (List ℕ)) (first first' : Count) (faults : Option (List ℕ)) (second second' : Count) (old new : ArrayState) : Refusal → Type 0 where
-  by_requests : {refusal : Refusal} → RequestsRefused requests first first' refusal → new ≡ old → IsRunRefused requests first first' faults second second' old new refusal
-  by_faults : {refusal : Refusal} {plan : Plan} → IsPlanOf requests plan → FaultsRefused faults second second' refusal → new ≡ old → IsRunRefused requests first first' faults second second' old new refusal
-  by_opening : {refusal : Refusal} {plan : Plan} → IsPlanOf requests plan → HasNoFaults faults → OpeningRefused old new refusal → IsRunRefused requests first first' faults second second' old new refusal
-  by_range : {refusal : Refusal} {plan : Plan} (sectors : ℕ) → IsPlanOf requests plan → HasNoFaults faults → ShowsImage old → HasSectors old sectors → IsPastAt sectors plan.jobs refusal
-      → IsRunRefused requests first first' faults second second' old new refusal
-  by_memory : IsRunRefused requests first first' faults second second' old new NoMemory
+abbrev pub cutting : List ArrayHit → ℕ
+cutting hits = count_by (λ hit. hit.cut) hits
 
--- a run may begin: its texts are good, its image is open, and no request ends past the last sector
-pub record IsReady (requests faults : Option (List ℕ)) (old : ArrayState) (ready : Ready) (new : ArrayState) : Type 0 where
-  pub plan : IsPlanOf requests ready.plan
-  pub no_faults : HasNoFaults faults
-  pub image : ShowsImage old
-  pub is_open : IsOpen ready.intent new
-  pub sectors : HasSectors old ready.intent.sectors
-  pub inside : position (is_past ready.intent.sectors) ready.plan.jobs ≡ None
-  pub servable : All (IsServable ready.plan.blocks ready.intent.sectors (vec_len ready.buffer)) ready.plan.jobs
+-- why the image isn't opened: its pages are none, the array or a line of the fault text made a call fail, or both cut eight openings in a row
+abbrev pub OpeningFailed : List ArrayHit → ArrayState → ArrayState → Refusal → Type 0
+OpeningFailed hits old new BadImage = IsNoImage old
+OpeningFailed hits old new ArrayFault = Rose old.faults new.faults ⊎ (1 ≤ failing hits)
+OpeningFailed hits old new NoPower = (old.cuts.value + 8 ≤ new.cuts.value + cutting hits) ⊎ (new.cuts.stands ≡ true)
+OpeningFailed hits old new _ = ⊥
 
--- what the image shows stayed, and counts didn't fall
-pub record IsSince (old new : ArrayState) : Type 0 where
-  pub shown : shown_by new ≡ shown_by old
-  pub faults : Later old.faults new.faults
-  pub cuts : Later old.cuts new.cuts
+-- A refused text touches no page. Behind the texts only the opening refuses a run.
+pub data IsRunRefused (requests : Option (List ℕ)) (first first' : Count) (fault_text : Option (List ℕ)) (second second' : Count) (old new : ArrayState) : Refusal → Type 0 where
+  unready : {refusal : Refusal} → IsUnready requests first first' fault_text second second' refusal → new ≡ old → IsRunRefused requests first first' fault_text second second' old new refusal
+  by_opening : {refusal : Refusal} {plan : Plan} {faults : Faults} → IsPlanOf requests plan → AreFaultsOf fault_text faults → OpeningFailed faults.array old new refusal
+      → IsRunRefused requests first first' fault_text second second' old new refusal
+
+-- a run of what the texts mean, before its first line
+pub record IsReady (requests fault_text : Option (List ℕ)) (ready : Ready) : Type 0 where
+  pub plan : Plan
+  pub faults : Faults
+  pub requests_mean : IsPlanOf requests plan
+  pub faults_mean : AreFaultsOf fault_text faults
+  pub fresh : IsFresh plan faults ready.world
+  pub hits : ready.hits ≡ faults.array

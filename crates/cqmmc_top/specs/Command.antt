@@ -1,8 +1,6 @@
 -- What a command answers: its status, what it wrote, and what the image shows then.
-use Rattle.std.specs.Prelude.{◌≡◌, ◌⊎◌, ℕ, ◌+◌, ◌≤◌, List, [], ◌∷◌, ◌++◌, decimal, length, Option, IfSome, OnOk, Result, codes, Some, None, position, Bool, true, false}
+use Rattle.std.specs.Prelude.{◌≡◌, ◌⊎◌, ℕ, ◌+◌, ◌≤◌, List, [], ◌∷◌, ◌++◌, decimal, Option, IfSome, codes, Some, None, Bool, true, false}
 use Rattle.storage_model.specs.Count.{Count, Rose}
-use Rattle.storage_model.specs.declared.ends.Halt.{Halt}
-use Rattle.storage_model.specs.declared.plan.Plan.{Plan}
 use Rattle.array_edge.specs.Array.{ArrayState}
 use Rattle.io_edge.specs.Sink.{TookPart}
 use Rattle.intent_store.specs.Intent.{ShowsImage, shown_by}
@@ -10,16 +8,15 @@ use Rattle.cqmmc_top.specs.declared.command.Command.{Command}
 use Rattle.cqmmc_top.specs.declared.command.Command.TheVariants.{Run, ExtCsd, New, Raw}
 use Rattle.cqmmc_top.specs.declared.refusal.Refusal.{Refusal}
 use Rattle.cqmmc_top.specs.declared.refusal.Refusal.TheVariants.{Usage}
-use Rattle.cqmmc_top.specs.Answers.{IsRunRefused, is_past}
+use Rattle.cqmmc_top.specs.Answers.{IsRunRefused}
 use Rattle.cqmmc_top.specs.Opened.{HasSectors, OpeningRefused}
 use Rattle.cqmmc_top.specs.Listing.{csd_text}
 use Rattle.cqmmc_top.specs.Made.{IsLeft, IsZeroImage, MakingRefused}
 use Rattle.ext_csd.specs.Values.{fresh}
-use Rattle.cqmmc_top.specs.Print.{HasCause, Served, run_status}
 use Rattle.cqmmc_top.specs.Raw.{RawAnswers}
 use Rattle.cqmmc_top.specs.Refusal.{Says}
-use Rattle.cqmmc_top.specs.Serial.{after_jobs, ended, start}
-use Rattle.cqmmc_top.specs.Texts.{IsPlanOf, HasNoFaults}
+use Rattle.cqmmc_top.specs.Run.{IsServed}
+use Rattle.world_steps.specs.World.{WorldState}
 
 -- `run IMAGE REQUESTS FAULTS`
 pub record IsRun (words : List (List ℕ)) : Type 0 where
@@ -75,35 +72,18 @@ IsCall None words = (command : Command) → IsCommand command words → ⊥
 
 module _ {K : Type 0} (took : K → List ℕ → K → Type 0) (faults_of : K → Count) where
   -- a run was refused: by a cause, and the image shows what it showed
-  pub record IsRefusedRun (requests : Option (List ℕ)) (first first' : Count) (faults : Option (List ℕ)) (second second' : Count) (old new : ArrayState) (out : K) (status : ℕ) (out' : K) : Type 0 where
+  pub record IsRefusedRun (requests : Option (List ℕ)) (first first' : Count) (faults : Option (List ℕ)) (second second' : Count) (old new : ArrayState) (out : K) (status : ℕ) (world : Option WorldState) (out' : K) : Type 0 where
     pub refusal : Refusal
     pub cause : IsRunRefused requests first first' faults second second' old new refusal
     pub says : Says took faults_of refusal out status out'
     pub shown : shown_by new ≡ shown_by old
     pub kept : ShowsImage old → ShowsImage new
-
-  -- the requests of a plan were served on an image, and the pages are an image at the end, however it came: the status says how
-  -- that ended, the lines are the machine's from what the image showed on, and what it shows then is the machine's contents or
-  -- near them. A run that ended well leaves all of it settled
-  pub record IsServed (requests faults : Option (List ℕ)) (old new : ArrayState) (out : K) (status : ℕ) (out' : K) : Type 0 where
-    pub plan : Plan
-    pub means : IsPlanOf requests plan
-    pub no_faults : HasNoFaults faults
-    pub image : ShowsImage old
-    pub kept : ShowsImage new
-    pub sectors : ℕ
-    pub has_sectors : HasSectors old sectors
-    pub inside : position (is_past sectors) plan.jobs ≡ None
-    pub result : Result (Unit {0}) Halt
-    pub is : status ≡ run_status result
-    pub served : IfSome (shown_by old) (λ base. Served took plan.blocks out (start base plan.jobs) result (shown_by new) out' (ended (after_jobs plan.blocks base plan.jobs) (length plan.jobs + 1)))
-    pub settled : OnOk result (new.settled ≡ true)
-    pub cause : HasCause (faults_of out) (faults_of out') old new result
+    pub none : world ≡ None
 
   -- a run is refused, or its requests are served
-  abbrev pub RunAnswers : Option (List ℕ) → Count → Count → Option (List ℕ) → Count → Count → ArrayState → ArrayState → K → ℕ → K → Type 0
-  RunAnswers requests first first' faults second second' old new out status out' =
-      IsRefusedRun requests first first' faults second second' old new out status out' ⊎ IsServed requests faults old new out status out'
+  abbrev pub RunAnswers : Option (List ℕ) → Count → Count → Option (List ℕ) → Count → Count → ArrayState → ArrayState → K → ℕ → Option WorldState → K → Type 0
+  RunAnswers requests first first' faults second second' old new out status world out' =
+      IsRefusedRun requests first first' faults second second' old new out status world out' ⊎ IsServed took faults_of requests faults old new out status world out'
 
   -- a text was written whole, or the sink failed within it
   abbrev pub Lists : List ℕ → K → ℕ → K → Type 0
@@ -153,9 +133,9 @@ module _ {K : Type 0} (took : K → List ℕ → K → Type 0) (faults_of : K �
     pub same : new ≡ old
 
   -- the words call a run, and it answers
-  pub record IsAnsweredRun (words : List (List ℕ)) (requests : Option (List ℕ)) (first first' : Count) (faults : Option (List ℕ)) (second second' : Count) (old new : ArrayState) (out : K) (status : ℕ) (out' : K) : Type 0 where
+  pub record IsAnsweredRun (words : List (List ℕ)) (requests : Option (List ℕ)) (first first' : Count) (faults : Option (List ℕ)) (second second' : Count) (old new : ArrayState) (out : K) (status : ℕ) (world : Option WorldState) (out' : K) : Type 0 where
     pub form : IsRun words
-    pub answers : RunAnswers requests first first' faults second second' old new out status out'
+    pub answers : RunAnswers requests first first' faults second second' old new out status world out'
 
   pub record IsAnsweredList (words : List (List ℕ)) (old new : ArrayState) (out : K) (status : ℕ) (out' : K) : Type 0 where
     pub form : IsExtCsd words
@@ -171,8 +151,8 @@ module _ {K : Type 0} (took : K → List ℕ → K → Type 0) (faults_of : K �
     pub form : IsRaw words
     pub answers : RawAnswers took faults_of script first first' old new out status out'
 
-  abbrev pub Answers : List (List ℕ) → Option (List ℕ) → Count → Count → Option (List ℕ) → Count → Count → ArrayState → ArrayState → K → ℕ → K → Type 0
-  Answers words requests first first' faults second second' old new out status out' =
-      IsUsage words old new out status out' ⊎ (IsAnsweredRun words requests first first' faults second second' old new out status out'
+  abbrev pub Answers : List (List ℕ) → Option (List ℕ) → Count → Count → Option (List ℕ) → Count → Count → ArrayState → ArrayState → K → ℕ → Option WorldState → K → Type 0
+  Answers words requests first first' faults second second' old new out status world out' =
+      IsUsage words old new out status out' ⊎ (IsAnsweredRun words requests first first' faults second second' old new out status world out'
       ⊎ (IsAnsweredList words old new out status out' ⊎ (IsAnsweredNew words old new out status out'
       ⊎ IsAnsweredRaw words requests first first' old new out status out')))

@@ -1,12 +1,12 @@
 pub mod Answers
 pub mod Command
+pub mod Concludes
 pub mod Listing
 pub mod Made
-pub mod Moves
 pub mod Opened
 pub mod Print
 pub mod RawByTask
 pub mod Raw
 pub mod Refusal
-pub mod Serial
+pub mod Run
 pub mod Texts

@@ -1,26 +1,29 @@
 -- What the texts of a command say, and why one is refused. A text is all that its source has left, where it tells that.
-use Rattle.std.specs.Prelude.{◌≡◌, ℕ, All, List, [], take, Option, IfSome}
+use Rattle.std.specs.Prelude.{◌≡◌, ◌≤◌, ℕ, All, List, length, take, Option, IfSome}
 use Rattle.storage_model.specs.Count.{Count, Rose}
 use Rattle.storage_model.specs.Plan.{IsValidPlan}
+use Rattle.storage_model.specs.declared.faults.Faults.{Faults}
+use Rattle.storage_model.specs.Faults.{AreValid}
 use Rattle.storage_model.specs.declared.plan.Plan.{Plan}
+use Rattle.fault_text.specs.Faults.{Means as FaultsMean}
 use Rattle.raw_text.specs.Meaning.{Means as ScriptMeans, IsBadAt as ScriptBadAt}
 use Rattle.raw_text.specs.Raw.{IsOp}
 use Rattle.raw_text.specs.declared.op.RawOp.{RawOp}
-use Rattle.script_text.specs.Requests.{Means, IsBadAt, IsRequest, HasDefaults}
-use Rattle.script_text.specs.Faults.{FaultsBadAt}
+use Rattle.request_text.specs.Meaning.{Means as RequestsMean}
+use Rattle.text_words.specs.Texts.{IsBadAt}
 use Rattle.cqmmc_top.specs.declared.refusal.Refusal.{Refusal}
 use Rattle.cqmmc_top.specs.declared.refusal.Refusal.TheVariants.{BadRequests, BadFaults, BadScript, ReadFault, NoMemory}
 
 -- the plan that a request text means
 pub record IsPlanOf (text : Option (List ℕ)) (plan : Plan) : Type 0 where
-  pub means : IfSome text (λ bytes. Means bytes plan.jobs)
-  pub each : All IsRequest plan.jobs
+  pub means : IfSome text (λ bytes. RequestsMean bytes plan)
   pub valid : IsValidPlan plan
-  pub settings : HasDefaults plan
 
--- a fault text without faults is empty
-abbrev pub HasNoFaults : Option (List ℕ) → Type 0
-HasNoFaults text = IfSome text (λ bytes. bytes ≡ [])
+-- the faults that a fault text means
+pub record AreFaultsOf (text : Option (List ℕ)) (faults : Faults) : Type 0 where
+  pub means : IfSome text (λ bytes. FaultsMean bytes faults)
+  pub valid : AreValid faults
+  pub few : length faults.array ≤ 4096
 
 -- the bytes were read, up to one past the limit
 abbrev pub WasRead : Option (List ℕ) → List ℕ → Type 0
@@ -33,13 +36,13 @@ IsTakenRefused old new _ = ⊥
 
 -- the first bad line, a rise of the source's count, or no memory
 abbrev pub RequestsRefused : Option (List ℕ) → Count → Count → Refusal → Type 0
-RequestsRefused text old new (BadRequests line) = IfSome text (λ bytes. IsBadAt bytes line)
+RequestsRefused text old new (BadRequests line) = IfSome text (λ bytes. IsBadAt RequestsMean bytes line)
 RequestsRefused text old new ReadFault = Rose old new
 RequestsRefused text old new NoMemory = Unit {0}
 RequestsRefused text old new _ = ⊥
 
 abbrev pub FaultsRefused : Option (List ℕ) → Count → Count → Refusal → Type 0
-FaultsRefused text old new (BadFaults line) = IfSome text (λ bytes. FaultsBadAt bytes line)
+FaultsRefused text old new (BadFaults line) = IfSome text (λ bytes. IsBadAt FaultsMean bytes line)
 FaultsRefused text old new ReadFault = Rose old new
 FaultsRefused text old new NoMemory = Unit {0}
 FaultsRefused text old new _ = ⊥

@@ -1,29 +1,23 @@
 // The words of the program, and the command that they call.
 ghost use Rattle.std.specs.Prelude.{◌≡◌, ◌+◌, ◌≤◌, decimal, drop, false, ℕ, [], List, Option, All, IfSome, IfNone, IsTrue, ◌↔◌, map, string_bytes, vec_len};
-ghost use Rattle.storage_model.specs.Plan.{IsValidPlan};
-ghost use Rattle.array_edge.specs.Array.{ArrayState};
-ghost use Rattle.script_text.specs.Requests.{HasDefaults};
-ghost use Rattle.cqmmc_top.specs.Answers.{IsReady, IsSince};
-ghost use Rattle.cqmmc_top.specs.Opened.{IsOpen};
-ghost use Rattle.cqmmc_top.specs.Serial.{IsServable};
 ghost use Rattle.cqmmc_top.specs.declared.command.Command.{Command as CommandOf};
 ghost use Rattle.cqmmc_top.specs.declared.command.Command.TheVariants.{New as NewOf};
-ghost use Rattle.cqmmc_top.specs.Command.{Answers, IsCall, IsCommand, IsMakeable, IsNew, IsRaw, IsRun, IsServed, ListAnswers, MakeAnswers, RunAnswers, reads_first, reads_second};
+ghost use Rattle.cqmmc_top.specs.Command.{Answers, IsCall, IsCommand, IsMakeable, IsNew, IsRaw, IsRun, ListAnswers, MakeAnswers, RunAnswers, reads_first, reads_second};
 ghost use Rattle.cqmmc_top.specs.Refusal.{Says};
 
 use crate::listing::put_csd;
 use crate::make::make_image;
 use crate::opening::open;
-use crate::prepare::{Ready, prepare};
+use crate::prepare::prepare;
 use crate::raw::run_script;
 use crate::refusal::{Refusal, put_numbered};
-use crate::run::run_plan;
+use crate::run::serve;
 use array_edge::Array;
 use ext_csd::ExtCsd;
 use io_edge::{Sink, Source};
 use std::alloc::Global;
-use storage_model::Halt;
 use text_words::read_decimal;
+use world::World;
 
 /// A command with its words.
 #[derive(Clone, Copy, Debug, PartialEq, Eq)]
@@ -65,25 +59,26 @@ pub fn text_words(words: &[String]) -> &[String]
     }
 }
 
-/// Runs the command that the words call, over an array, three sources for its texts and a sink for its lines, and gives
-/// back the exit status and the array. The first text is read for `run` and `raw` alone, the second for `run` alone.
+/// Runs the command that the words call, over an array, three sources for its texts and a sink for its lines, and gives back the
+/// exit status, the array, and the run of `run` where it ended well. The first text is read for `run` and `raw` alone, the second
+/// for `run` alone.
 pub fn run_command<A: Array, S1: Source, S2: Source, S3: Source, K: Sink>(
     alloc: Global,
     words: &[String],
-    mut array: A,
+    array: A,
     first: &mut S1,
     second: &mut S2,
     third: &mut S3,
     out: &mut K,
-) -> (u8, A)
-    ensures answers { Answers K.took K.faults (map string_bytes words.now) (S1.left first.old) (S1.faults first.old) (S1.faults first.new) (S2.left second.old) (S2.faults second.old) (S2.faults second.new) (A.state array) (A.state result.1) out.old result.0 out.new }
+) -> (u8, A, Option<World>)
+    ensures answers { Answers K.took K.faults (map string_bytes words.now) (S1.left first.old) (S1.faults first.old) (S1.faults first.new) (S2.left second.old) (S2.faults second.old) (S2.faults second.new) (A.state array) (A.state result.1) out.old result.0 result.2 out.new }
+    ensures world { (IsRun (map string_bytes words.now) → ⊥) → result.2 ≡ None }
     ensures first { (IsRun (map string_bytes words.now) → ⊥) → (IsRaw (map string_bytes words.now) → ⊥) → first.new ≡ first.old }
     ensures second { (IsRun (map string_bytes words.now) → ⊥) → second.new ≡ second.old }
     ensures third { third.new ≡ third.old }
 {
     let _ = third;
-    let status = carry_out(alloc, command_of(words), first, second, &mut array, out);
-    (status, array)
+    carry_out(alloc, command_of(words), first, second, array, out)
 }
 
 // Carries a command out, or tells the usage where there is none.
@@ -92,20 +87,21 @@ fn carry_out<A: Array, S1: Source, S2: Source, K: Sink>(
     command: Option<Command>,
     first: &mut S1,
     second: &mut S2,
-    array: &mut A,
+    mut array: A,
     out: &mut K,
-) -> u8
+) -> (u8, A, Option<World>)
     requires makeable { IfSome command IsMakeable }
-    ensures answers { (words : List (List ℕ)) → IsCall command words → Answers K.took K.faults words (S1.left first.old) (S1.faults first.old) (S1.faults first.new) (S2.left second.old) (S2.faults second.old) (S2.faults second.new) (A.state array.old) (A.state array.new) out.old result out.new }
+    ensures answers { (words : List (List ℕ)) → IsCall command words → Answers K.took K.faults words (S1.left first.old) (S1.faults first.old) (S1.faults first.new) (S2.left second.old) (S2.faults second.old) (S2.faults second.new) (A.state array) (A.state result.1) out.old result.0 result.2 out.new }
+    ensures world { reads_second command ≡ false → result.2 ≡ None }
     ensures first { reads_first command ≡ false → first.new ≡ first.old }
     ensures second { reads_second command ≡ false → second.new ≡ second.old }
 {
     match command {
-        None => refuse(Refusal::Usage, out),
+        None => (refuse(Refusal::Usage, out), array, None),
         Some(Command::Run) => run(alloc, first, second, array, out),
-        Some(Command::ExtCsd) => list(array, out),
-        Some(Command::New { sectors }) => make(sectors, array, out),
-        Some(Command::Raw) => run_script(alloc, first, array, out),
+        Some(Command::ExtCsd) => (list(&mut array, out), array, None),
+        Some(Command::New { sectors }) => (make(sectors, &mut array, out), array, None),
+        Some(Command::Raw) => (run_script(alloc, first, &mut array, out), array, None),
     }
 }
 
@@ -113,36 +109,14 @@ fn run<A: Array, S1: Source, S2: Source, K: Sink>(
     alloc: Global,
     first: &mut S1,
     second: &mut S2,
-    array: &mut A,
+    array: A,
     out: &mut K,
-) -> u8
-    ensures { RunAnswers K.took K.faults (S1.left first.old) (S1.faults first.old) (S1.faults first.new) (S2.left second.old) (S2.faults second.old) (S2.faults second.new) (A.state array.old) (A.state array.new) out.old result out.new }
+) -> (u8, A, Option<World>)
+    ensures { RunAnswers K.took K.faults (S1.left first.old) (S1.faults first.old) (S1.faults first.new) (S2.left second.old) (S2.faults second.old) (S2.faults second.new) (A.state array) (A.state result.1) out.old result.0 result.2 out.new }
 {
-    match prepare(alloc, first, second, array) {
-        Err(refusal) => refuse(refusal, out),
-        Ok(ready) => serve_all(ready, array, out),
-    }
-}
-
-// Serves the requests, and answers the status.
-fn serve_all<A: Array, K: Sink>(ready: Ready, array: &mut A, out: &mut K) -> u8
-    requires open { IsOpen ready.intent (A.state array.old) }
-    requires servable { All (IsServable ready.plan.blocks ready.intent.sectors (vec_len ready.buffer)) ready.plan.jobs }
-    requires valid { IsValidPlan ready.plan }
-    requires settings { HasDefaults ready.plan }
-    ensures { (requests faults : Option (List ℕ)) (entry : ArrayState) → IsReady requests faults entry ready (A.state array.old) → IsSince entry (A.state array.old) → IsServed K.took K.faults requests faults entry (A.state array.new) out.old result out.new }
-{
-    let Ready {
-        plan,
-        mut intent,
-        mut buffer,
-    } = ready;
-    match run_plan(&plan, &mut intent, &mut buffer, array, out) {
-        Ok(()) => 0,
-        Err(Halt::SinkFailed) => 5,
-        Err(Halt::OpenFault) => 7,
-        Err(Halt::PowerGone) => 8,
-        Err(Halt::BadImage) => 6,
+    match prepare(alloc, first, second) {
+        Err(refusal) => (refuse(refusal, out), array, None),
+        Ok(ready) => serve(ready, array, out),
     }
 }
 

@@ -4,14 +4,11 @@
 mod command;
 mod listing;
 mod make;
-mod moves;
 mod opening;
 mod prepare;
-mod print;
 mod raw;
 mod refusal;
 mod run;
-mod serve;
 mod texts;
 
 pub use command::{new_pages, run_command, text_words};

@@ -1,85 +1,74 @@
-// All requests of a plan, one after the other.
-ghost use Rattle.std.specs.Prelude.{◌≡◌, ◌+◌, ◌≤◌, [], All, List, ℕ, Option, Some, length, true, OnOk};
-ghost use Rattle.std.specs.Option.{IsSomeAnd};
-ghost use Rattle.storage_model.specs.Plan.{IsValidJob, blocks_of};
-ghost use Rattle.storage_model.specs.declared.block.Block.{Block as Contents};
-ghost use Rattle.intent_store.specs.Intent.{ShowsImage, shown_by};
-ghost use Rattle.cqmmc_top.specs.Opened.{IsOpen};
-ghost use Rattle.cqmmc_top.specs.Print.{HasCause, Served};
-ghost use Rattle.cqmmc_top.specs.Serial.{after_jobs, issuing, ended, start, IsServable};
+// A run of what its texts mean, over an array with the faults of its fault text.
+ghost use Rattle.std.specs.Prelude.{◌≡◌, ◌⊎◌, List, None, Option, Some, ℕ};
+ghost use Rattle.storage_model.specs.Count.{Count};
+ghost use Rattle.storage_model.specs.Faults.{IsValidArrayHits};
+ghost use Rattle.array_edge.specs.Array.{ArrayState};
+ghost use Rattle.cqmmc_top.specs.Answers.{IsReady};
+ghost use Rattle.cqmmc_top.specs.Command.{RunAnswers};
+ghost use Rattle.cqmmc_top.specs.Concludes.{Concludes};
+ghost use Rattle.whole_run.specs.Whole.{IsNew};
 
-use crate::moves::settle;
-use crate::print::print;
-use crate::serve::{end, serve};
-use array_edge::Array;
-use intent_store::Intent;
+use crate::command::refuse;
+use crate::prepare::Ready;
+use crate::refusal::Refusal;
+use array_edge::{Array, RunArray, RunStart, ScriptArray};
 use io_edge::Sink;
-use storage_model::{Block, End, Halt, Item, Plan};
+use run_laws::acceptance_takes_whole_runs;
+use std::marker::Brand;
+use storage_model::Halt;
+use whole_run::{Stop, run_to_end};
+use world::World;
 
-/// Prints the first line, serves the requests in their order, and makes everything durable at the end. `buffer` has room
-/// for the sectors of each request.
-#[tactic(auto, using(crate::proofs::Imaging::open_shows))]
-pub fn run_plan<A: Array, K: Sink>(
-    plan: &Plan,
-    intent: &mut Intent,
-    buffer: &mut [Block],
-    array: &mut A,
-    out: &mut K,
-) -> Result<(), Halt>
-    requires requests { All (IsServable plan.now.blocks intent.old.sectors (length buffer.old)) plan.now.jobs }
-    requires few { length plan.now.jobs ≤ 65536 }
-    requires depth { plan.now.depth ≡ 16 }
-    requires lines { plan.now.lines ≡ 64 }
-    requires open { IsOpen intent.old (A.state array.old) }
-    ensures served { (base : List Contents) → shown_by (A.state array.old) ≡ Some base → Served K.took plan.now.blocks out.old (start base plan.now.jobs) result (shown_by (A.state array.new)) out.new (ended (after_jobs plan.now.blocks base plan.now.jobs) (length plan.now.jobs + 1)) }
-    ensures image { ShowsImage (A.state array.new) }
-    ensures settled { OnOk result ((A.state array.new).settled ≡ true) }
-    ensures cause { HasCause (K.faults out.old) (K.faults out.new) (A.state array.old) (A.state array.new) result }
+/// Serves the requests, and answers the status, the array, and the run where it ended well.
+pub fn serve<A: Array, K: Sink>(ready: Ready, array: A, out: &mut K) -> (u8, A, Option<World>)
+    requires new { IsNew ready.world }
+    requires hits { IsValidArrayHits ready.hits }
+    ensures { (requests fault_text : Option (List ℕ)) (first first' second second' : Count) → IsReady requests fault_text ready → RunAnswers K.took K.faults requests first first' fault_text second second' (A.state array) (A.state result.1) out.old result.0 result.2 out.new }
 {
-    let first = Item::Card {
-        sectors: intent.sectors(),
-        depth: plan.depth,
-        lines: Some(plan.lines),
-    };
-    print(&first, out)?;
-    serve_jobs(plan, intent, buffer, array, out)?;
-    finish(intent, array, out)
+    serve_over::<A, K, Brand>(ready, array, out)
 }
 
-#[tactic(auto, using(crate::proofs::Imaging::open_shows))]
-fn serve_jobs<A: Array, K: Sink>(
-    plan: &Plan,
-    intent: &mut Intent,
-    buffer: &mut [Block],
-    array: &mut A,
+// The same, where the array is known by what it was at the start.
+fn serve_over<A: Array, K: Sink, S: RunStart>(
+    ready: Ready,
+    array: A,
     out: &mut K,
-) -> Result<(), Halt>
-    requires requests { All (IsServable plan.now.blocks intent.old.sectors (length buffer.old)) plan.now.jobs }
-    requires few { length plan.now.jobs ≤ 65536 }
-    requires open { IsOpen intent.old (A.state array.old) }
-    ensures served { (base : List Contents) → shown_by (A.state array.old) ≡ Some base → Served K.took plan.now.blocks out.old (issuing base 1 plan.now.jobs) result (shown_by (A.state array.new)) out.new (issuing (after_jobs plan.now.blocks base plan.now.jobs) (length plan.now.jobs + 1) []) }
-    ensures sectors { intent.new.sectors ≡ intent.old.sectors }
-    ensures open { OnOk result (IsOpen intent.new (A.state array.new)) }
-    ensures image { ShowsImage (A.state array.new) }
-    ensures cause { HasCause (K.faults out.old) (K.faults out.new) (A.state array.old) (A.state array.new) result }
+) -> (u8, A, Option<World>)
+    requires new { IsNew ready.world }
+    requires valid { IsValidArrayHits ready.hits }
+    requires start { A.state array ≡ S.start }
+    requires hits { ready.hits ≡ S.hits }
+    ensures { (requests fault_text : Option (List ℕ)) (first first' second second' : Count) → IsReady requests fault_text ready → RunAnswers K.took K.faults requests first first' fault_text second second' (A.state array) (A.state result.1) out.old result.0 result.2 out.new }
 {
-    let jobs = plan.jobs.as_slice();
-    for (place, job) in jobs.iter().enumerate() {
-        serve(place as u32 + 1, job, plan, intent, buffer, array, out)?;
-    }
-    Ok(())
+    acceptance_takes_whole_runs();
+    let Ready { mut world, hits } = ready;
+    let mut run: RunArray<A, S> = RunArray::over(ScriptArray::over(array, hits));
+    let ended = run_to_end(&mut world, &mut run, out);
+    let status = conclude(ended, out);
+    (status, run.back().back(), hand_back(world, status))
 }
 
-// The array is settled once more, and the last line says how that ended.
-fn finish<A: Array, K: Sink>(intent: &mut Intent, array: &mut A, out: &mut K) -> Result<(), Halt>
-    requires { IsOpen intent.old (A.state array.old) }
-    ensures served { (blocks base : List Contents) (id : ℕ) → shown_by (A.state array.old) ≡ Some base → Served K.took blocks out.old (issuing base id []) result (shown_by (A.state array.new)) out.new (ended base id) }
-    ensures image { ShowsImage (A.state array.new) }
-    ensures settled { OnOk result ((A.state array.new).settled ≡ true) }
-    ensures cause { HasCause (K.faults out.old) (K.faults out.new) (A.state array.old) (A.state array.new) result }
+// The status by how a run ended. One whose image wasn't opened is refused.
+fn conclude<K: Sink>(ended: Result<(), Stop>, out: &mut K) -> u8
+    ensures { Concludes K.took K.faults ended out.old result out.new }
 {
-    match settle(intent, array) {
-        Ok(()) => print(&Item::Off { end: End::Good }, out),
-        Err(why) => end(why, out),
+    match ended {
+        Ok(()) => 0,
+        Err(Stop::Before(Halt::SinkFailed)) => 5,
+        Err(Stop::Before(Halt::BadImage)) => refuse(Refusal::BadImage, out),
+        Err(Stop::Before(Halt::OpenFault)) => refuse(Refusal::ArrayFault, out),
+        Err(Stop::Before(Halt::PowerGone)) => refuse(Refusal::NoPower, out),
+        Err(Stop::Behind(Halt::SinkFailed)) => 5,
+        Err(Stop::Behind(Halt::BadImage)) => 6,
+        Err(Stop::Behind(Halt::OpenFault)) => 7,
+        Err(Stop::Behind(Halt::PowerGone)) => 8,
     }
+}
+
+// A run that ended well.
+fn hand_back(world: World, status: u8) -> Option<World>
+    ensures well { status ≡ 0 → result ≡ Some world }
+    ensures other { (status ≡ 0 → ⊥) → result ≡ None }
+{
+    if status == 0 { Some(world) } else { None }
 }

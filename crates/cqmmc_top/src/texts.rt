@@ -2,15 +2,15 @@
 ghost use Rattle.std.specs.Prelude.{◌≡◌, ◌+◌, IfOk, IfErr, Ok};
 ghost use Rattle.storage_model.specs.Count.{Later, Rose};
 ghost use Rattle.storage_model.specs.Plan.{IsValidPlan};
-ghost use Rattle.script_text.specs.Faults.{FaultsMean};
-ghost use Rattle.cqmmc_top.specs.Texts.{IsPlanOf, HasNoFaults, RequestsRefused, FaultsRefused, IsScriptOf, ScriptRefused, WasRead, IsTakenRefused};
+ghost use Rattle.cqmmc_top.specs.Texts.{AreFaultsOf, IsPlanOf, RequestsRefused, FaultsRefused, IsScriptOf, ScriptRefused, WasRead, IsTakenRefused};
 
 use crate::refusal::Refusal;
+use fault_text::read_faults;
 use io_edge::{Source, TakeEnd, take_all};
 use raw_text::{RawList, read_raw};
-use script_text::{read_faults, read_requests};
+use request_text::read_requests;
 use std::alloc::Global;
-use storage_model::{Bytes, Plan, TextEnd};
+use storage_model::{Bytes, Faults, Plan, TextEnd};
 
 const MAX_TEXT: u32 = 16_777_216;
 
@@ -28,15 +28,15 @@ pub fn take_plan<S: Source>(alloc: Global, source: &mut S) -> Result<Plan, Refus
     }
 }
 
-/// A fault text, of which only the empty one is accepted so far.
-pub fn take_faults<S: Source>(alloc: Global, source: &mut S) -> Result<(), Refusal>
-    ensures ok { IfOk result (λ done. HasNoFaults (S.left source.old)) }
+/// The faults of a fault text.
+pub fn take_faults<S: Source>(alloc: Global, source: &mut S) -> Result<Faults, Refusal>
+    ensures ok { IfOk result (AreFaultsOf (S.left source.old)) }
     ensures err { IfErr result (FaultsRefused (S.left source.old) (S.faults source.old) (S.faults source.new)) }
     ensures faults { Later (S.faults source.old) (S.faults source.new) }
 {
     let text = take_text(alloc, source)?;
     match read_faults(alloc, text.as_slice()) {
-        Ok(_) => Ok(()),
+        Ok(faults) => Ok(faults),
         Err(TextEnd::Bad { line }) => Err(Refusal::BadFaults { line }),
         Err(TextEnd::NoMemory) => Err(Refusal::NoMemory),
     }

@@ -15,19 +15,49 @@ const RAW: &str = "raw image script";
 
 const LIST: &str = "extcsd image";
 
-const TWO: &str = "write 0 2 fill aa\nread 0 2\n";
+const READ: &str = "read 0 1\n";
 
-const TWO_TRACE: &str = "\
+const READ_TRACE: &str = "\
 card 8 16 64
 issue 1 0
-phase 1 1 2 kept
-1 ok
-issue 2 0
-phase 2 2 2
-2 data
-fill aa
-fill aa
+params 1 1
+address 2 1
+poll 3 00000001
+phase 4 1 1
+irq 00000001
+1 data
+fill 00
 off ok
+";
+
+// Two blocks of aa, which stay in the cache up to the last flush: the array is written behind the answer.
+const WRITE: &str = "write 0 2 fill aa\n";
+
+const WRITE_TRACE: &str = "\
+card 8 16 64
+issue 1 0
+params 1 1
+address 2 1
+poll 3 00000001
+phase 4 1 2
+irq 00000001
+1 ok
+";
+
+const READ_TWO: &str = "read 0 2\n";
+
+// Written at the close of the phase, by programs 1 to 4: the data, the gate ajar, the sector, the gate shut.
+const RELIABLE: &str = "write 0 1 fill aa reliable\n";
+
+const RELIABLE_CUT: &str = "\
+card 8 16 64
+issue 1 0
+params 1 1
+address 2 1
+poll 3 00000001
+phase 4 1 1
+cut
+1 lost
 ";
 
 // A block of aa to sector 0, which stays in the cache up to the last flush.
@@ -92,7 +122,7 @@ fn cut(n: u32) -> ArrayHit {
         fetch: false,
         n,
         cut: true,
-        mask: 0x55,
+        mask: 0,
     }
 }
 
@@ -120,7 +150,8 @@ fn run_words(
         words.push(String::from_str(alloc, word)?)?;
     }
     let third = &mut EmptySource::new();
-    Ok(run_command(alloc, &words, array, first, second, third, out))
+    let (status, array, _) = run_command(alloc, &words, array, first, second, third, out);
+    Ok((status, array))
 }
 
 // Runs it over a first text and an empty second one.
@@ -149,7 +180,7 @@ fn sources_fail(rt: HostRuntime) -> Result<(), Fail> {
     ];
     for (words, first, second) in rows {
         let mut out = room(alloc)?;
-        let mut first = source(alloc, "read 0 1\n", first)?;
+        let mut first = source(alloc, READ, first)?;
         let mut second = source(alloc, "", second)?;
         let array = image(alloc, Gate::Shut, &[])?;
         let answer = run_words(alloc, words, &mut first, &mut second, array, &mut out)?;
@@ -164,13 +195,14 @@ fn sources_fail(rt: HostRuntime) -> Result<(), Fail> {
 fn sink_takes_single_bytes(rt: HostRuntime) -> Result<(), Fail> {
     let alloc = rt.alloc();
     let rows = [
-        (RUN, TWO, TWO_TRACE),
-        (RAW, CACHED, CACHED_SHOWN),
-        ("new image 8", "", "new 8\n"),
-        ("foo", "", "usage\n"),
+        (RUN, READ, READ_TRACE, 16),
+        (RAW, CACHED, CACHED_SHOWN, 1),
+        ("new image 8", "", "new 8\n", 1),
+        ("foo", "", "usage\n", 1),
     ];
-    for (words, text, shown) in rows {
-        for put in 1..1000u32 {
+    for (words, text, shown, step) in rows {
+        for k in 0..1000u32 {
+            let put = 1 + step * k;
             let mut out = MemSink::by_steps(alloc, 4096, 1, vec![in alloc; put]?)?;
             let array = image(alloc, Gate::Shut, &[])?;
             let answer = run_text(alloc, words, text, array, &mut out)?;
@@ -226,22 +258,39 @@ fn count_written(pages: &BlockList) -> usize {
 #[test]
 fn array_fails(rt: HostRuntime) -> Result<(), Fail> {
     let alloc = rt.alloc();
-    let none = "card 8 16 64\nissue 1 0\nphase 1 1 0\n";
-    let one = "card 8 16 64\nissue 1 0\nphase 1 1 1\n";
-    let unread = "card 8 16 64\nissue 1 0\nphase 1 1 2 kept\n1 ok\nissue 2 0\nphase 2 2 0\n";
-    let half = "card 8 16 64\nissue 1 0\nphase 1 1 2 kept\n1 ok\nissue 2 0\nphase 2 2 1\n";
+    let none = "card 8 16 64\nissue 1 0\nparams 1 1\naddress 2 1\npoll 3 00000001\nphase 4 1 0\n";
+    let one = "card 8 16 64\nissue 1 0\nparams 1 1\naddress 2 1\npoll 3 00000001\nphase 4 1 1\n";
+    let failed = "flash 1\n1 fault flash\nrecover\ndiscard 5\noff ok\n";
+    let left = "cut\non\nleft 0 fill 00\nleft 1 fill 00\noff ok\n";
+    let half = "cut\non\nleft 0 fill aa\nleft 1 fill 00\noff ok\n";
     let written = "card 8 31 64\ntask 0 ok\nnoreg 4c\n";
     let refused = "card 8 31 64\ntask 0 error 00080900\n";
     let rows = [
-        (RUN, TWO, program_fails(1), 7, 0, none, "off fault\n"),
-        (RUN, TWO, program_fails(2), 7, 1, one, "off fault\n"),
-        (RUN, TWO, program_fails(3), 0, 2, TWO_TRACE, ""),
-        (RUN, TWO, cut(1), 8, 0, none, "off dead\n"),
-        (RUN, TWO, cut(2), 8, 1, one, "off dead\n"),
-        (RUN, TWO, fetch_fails(1), 7, 0, "array fault\n", ""),
-        (RUN, TWO, fetch_fails(2), 7, 0, "array fault\n", ""),
-        (RUN, TWO, fetch_fails(3), 7, 2, unread, "off fault\n"),
-        (RUN, TWO, fetch_fails(4), 7, 2, half, "off fault\n"),
+        (
+            RUN,
+            WRITE,
+            program_fails(1),
+            7,
+            0,
+            WRITE_TRACE,
+            "off fault\n",
+        ),
+        (
+            RUN,
+            WRITE,
+            program_fails(2),
+            7,
+            1,
+            WRITE_TRACE,
+            "off fault\n",
+        ),
+        (RUN, WRITE, program_fails(3), 0, 2, WRITE_TRACE, "off ok\n"),
+        (RUN, WRITE, cut(1), 0, 0, WRITE_TRACE, left),
+        (RUN, WRITE, cut(2), 0, 1, WRITE_TRACE, half),
+        (RUN, READ_TWO, fetch_fails(1), 7, 0, "array fault\n", ""),
+        (RUN, READ_TWO, fetch_fails(2), 7, 0, "array fault\n", ""),
+        (RUN, READ_TWO, fetch_fails(3), 0, 0, none, failed),
+        (RUN, READ_TWO, fetch_fails(4), 0, 0, one, failed),
         (RAW, CACHED, fetch_fails(1), 7, 0, "array fault\n", ""),
         (RAW, CACHED, fetch_fails(2), 7, 0, "array fault\n", ""),
         (RAW, CACHED, program_fails(1), 7, 0, written, "off fault\n"),
@@ -288,6 +337,64 @@ fn array_fails(rt: HostRuntime) -> Result<(), Fail> {
             count_written(answer.1.contents()),
             written,
             "of {words} at {hit:?}"
+        );
+    }
+    Ok(())
+}
+
+// A cut in the last flush, behind which the array fails: at the opening, or where a sector that may have changed is read.
+#[test]
+fn array_fails_behind_a_cut(rt: HostRuntime) -> Result<(), Fail> {
+    let alloc = rt.alloc();
+    for (n, last) in [(3, "cut\noff fault\n"), (5, "cut\non\noff fault\n")] {
+        let mut out = room(alloc)?;
+        let array = image(alloc, Gate::Shut, &[cut(1), fetch_fails(n)])?;
+        let answer = run_text(alloc, RUN, WRITE, array, &mut out)?;
+        assert_eq!(rt; answer.0, 7, "at fetch {n}");
+        assert!(rt;
+            out.bytes().starts_with(WRITE_TRACE.as_bytes()),
+            "at fetch {n}"
+        );
+        assert_eq!(rt;
+            &out.bytes()[WRITE_TRACE.len()..],
+            last.as_bytes(),
+            "at fetch {n}"
+        );
+    }
+    Ok(())
+}
+
+// A cut of the program of the sector, and of that in so many openings behind it: the gate stays ajar.
+#[test]
+fn openings_are_cut_behind_a_cut(rt: HostRuntime) -> Result<(), Fail> {
+    let alloc = rt.alloc();
+    for openings in 0..=8u32 {
+        let mut hits = Vec::new(alloc);
+        let mut lines = Vec::new(alloc);
+        for n in 0..=openings {
+            hits.push(cut(3 + n))?;
+        }
+        for _ in 0..openings {
+            lines.extend_from_slice(b"cut\n")?;
+        }
+        let (status, last) = if openings < 8 {
+            (0, b"on\nleft 0 fill aa\noff ok\n".as_slice())
+        } else {
+            (8, b"off dead\n".as_slice())
+        };
+        lines.extend_from_slice(last)?;
+        let mut out = room(alloc)?;
+        let array = image(alloc, Gate::Shut, &hits)?;
+        let answer = run_text(alloc, RUN, RELIABLE, array, &mut out)?;
+        assert_eq!(rt; answer.0, status, "after {openings}");
+        assert!(rt;
+            out.bytes().starts_with(RELIABLE_CUT.as_bytes()),
+            "after {openings}"
+        );
+        assert_eq!(rt;
+            &out.bytes()[RELIABLE_CUT.len()..],
+            lines.as_slice(),
+            "after {openings}"
         );
     }
     Ok(())

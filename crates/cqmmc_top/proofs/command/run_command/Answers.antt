@@ -31,14 +31,17 @@ no_second (Some ExtCsd) words call run = refl
 no_second (Some (New sectors)) words call run = refl
 no_second (Some Raw) words call run = refl
 
-pub carry_out-status-requires : goal.carry_out-status-requires
-carry_out-status-requires g c = record { makeable = makeable c.command_of.result _ c.command_of.ensures.some }
+pub carry_out-requires : goal.carry_out-requires
+carry_out-requires g c = record { makeable = makeable c.command_of.result _ c.command_of.ensures.some }
 
 pub returns-clause-answers : goal.returns-clause-answers
-returns-clause-answers g c = c.carry_out-status.ensures.answers _ (called c.command_of.result _ c.command_of.ensures.some c.command_of.ensures.none)
+returns-clause-answers g c = c.carry_out.ensures.answers _ (called c.command_of.result _ c.command_of.ensures.some c.command_of.ensures.none)
 
 pub returns-clause-first : goal.returns-clause-first
-returns-clause-first g c = λ run raw. c.carry_out-status.ensures.first (no_first c.command_of.result _ (called c.command_of.result _ c.command_of.ensures.some c.command_of.ensures.none) run raw)
+returns-clause-first g c = λ run raw. c.carry_out.ensures.first (no_first c.command_of.result _ (called c.command_of.result _ c.command_of.ensures.some c.command_of.ensures.none) run raw)
 
 pub returns-clause-second : goal.returns-clause-second
-returns-clause-second g c = λ run. c.carry_out-status.ensures.second (no_second c.command_of.result _ (called c.command_of.result _ c.command_of.ensures.some c.command_of.ensures.none) run)
+returns-clause-second g c = λ run. c.carry_out.ensures.second (no_second c.command_of.result _ (called c.command_of.result _ c.command_of.ensures.some c.command_of.ensures.none) run)
+
+pub returns-clause-world : goal.returns-clause-world
+returns-clause-world g c = λ run. c.carry_out.ensures.world (no_second c.command_of.result _ (called c.command_of.result _ c.command_of.ensures.some c.command_of.ensures.none) run)

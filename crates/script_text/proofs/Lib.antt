@@ -1,3 +1,0 @@
-pub mod FaultMeanings
-pub mod JobWords
-pub mod Meanings
