@@ -1,0 +1,9 @@
+mod Tasks
+mod Dues
+mod Stands
+mod Settled
+mod Lines
+mod Phases
+mod Answered
+mod Rights
+mod Traces
