@@ -131,6 +131,7 @@ pub fn stage_named<A: Array>(
             k += 1;
         }
     }
+    cache.mark_lines();
     Ok(())
 }
 

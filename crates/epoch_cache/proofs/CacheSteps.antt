@@ -28,7 +28,7 @@ pub all_also : {X : Type 0} (P Q : X → Type 0) (xs : List X) → ((x : X) → 
 all_also P Q [] also all = tt
 all_also P Q (x ∷ xs) also all = (also x all.0, all_also P Q xs also all.1)
 
-length_less : {X : Type 0} (xs : List X) (k : ℕ) → length (remove xs k) ≤ length xs
+pub length_less : {X : Type 0} (xs : List X) (k : ℕ) → length (remove xs k) ≤ length xs
 length_less [] zero = omega arith
 length_less [] (suc k) = omega arith
 length_less (x ∷ xs) zero = omega arith

@@ -1,5 +1,5 @@
 -- Each sector's last line stays found: the oldest line goes, a line comes behind all others, and a line is renewed.
-use Rattle.std.proofs.Common.{◌≡◌, ◌≢◌, ℕ, ◌+◌, ◌-◌, ◌<◌, ◌≤◌, ◌==◌, suc, zero, inl, inr, false, if◌then◌else◌, Option, Some, None, List, [], ◌∷◌, ◌++◌, get_or, length, remove, refl, sym, ap, subst, ◌∙◌, arith, length-append, take}
+use Rattle.std.proofs.Common.{◌≡◌, ◌≢◌, ℕ, ◌+◌, ◌-◌, ◌<◌, ◌≤◌, ◌==◌, suc, zero, inl, inr, Bool, true, false, if◌then◌else◌, Option, Some, None, List, [], ◌∷◌, ◌++◌, get_or, length, remove, refl, sym, ap, subst, ◌∙◌, arith, length-append, take}
 use Rattle.std.proofs.Math.ListN.{set, length-set}
 use Rattle.std.proofs.lemmas.Bool.{cases_Bool, cases_lt, eqb-true, eq-eqb, both_ways, false_from_ne_true, le-ltb}
 use Rattle.std.proofs.lemmas.List.{get_or_default}
@@ -8,7 +8,7 @@ use Rattle.epoch_cache.specs.Cache.{IsCache, IsBefore, IsPlace, AreInOrder, is_o
 use Rattle.epoch_cache.specs.Recent.{AreFound, AreMarked, IsLastOf, IsNewest, Places, place_from, place_in}
 use Rattle.epoch_cache.specs.declared.line.Line.{Line}
 use Rattle.epoch_cache.proofs.TableSteps.{all_at}
-use Rattle.epoch_cache.proofs.CacheSteps.{is_of-true, is_of-from, none_among}
+use Rattle.epoch_cache.proofs.CacheSteps.{length_less, is_of-true, is_of-from, none_among}
 
 newest_none : (lines : List Line) (s : ℕ) (place : Option ℕ) → place ≡ None → ((k : ℕ) (d : Line) → k < length lines → (get_or lines k d).sector ≢ s) → IsNewest lines s place
 newest_none lines s place e all = record { none = λ _. all; some = λ p same. absurd (cc) }
@@ -158,20 +158,30 @@ place_now lines last s p d at now = record {
 
 -- what is kept beside the lines
 
-pub marked_shift : (lines : List Line) (room : ℕ) (places : Places) (first : ℕ) → 0 < length lines → AreMarked lines room places first → AreMarked (remove lines 0) room places (first + 1)
-marked_shift [] room places first some are = absurd (omega arith)
-marked_shift (line ∷ lines) room places first some are = let few = are.few in record {
-  found = found_shift line lines places first are.found;
+pub marked_shift : (lines : List Line) (room : ℕ) (places : Places) (first : ℕ) (stale : Bool) → 0 < length lines → AreMarked lines room places first stale
+    → AreMarked (remove lines 0) room places (first + 1) stale
+marked_shift [] room places first stale some are = absurd (omega arith)
+marked_shift (line ∷ lines) room places first stale some are = let few = are.few in record {
+  found = λ fresh. found_shift line lines places first (are.found fresh);
   roomy = are.roomy;
   few = omega arith;
 }
 
-pub marked_set : (lines : List Line) (room : ℕ) (places : Places) (first k : ℕ) (line d : Line) → k < length lines → line.sector ≡ (get_or lines k d).sector
-    → AreMarked lines room places first → AreMarked (set lines k line) room places first
-marked_set lines room places first k line d below same are = record {
-  found = found_set lines places first k line d below same are.found;
+pub marked_set : (lines : List Line) (room : ℕ) (places : Places) (first k : ℕ) (stale : Bool) (line d : Line) → k < length lines → line.sector ≡ (get_or lines k d).sector
+    → AreMarked lines room places first stale → AreMarked (set lines k line) room places first stale
+marked_set lines room places first k stale line d below same are = record {
+  found = λ fresh. found_set lines places first k line d below same (are.found fresh);
   roomy = are.roomy;
   few = rw length-set are.few;
+}
+
+-- a line went from between others
+pub marked_less : (lines : List Line) (room : ℕ) (places : Places) (first k : ℕ) (stale : Bool) → AreMarked lines room places first stale
+    → AreMarked (remove lines k) room places first true
+marked_less lines room places first k stale are = record {
+  found = λ fresh. absurd (cc);
+  roomy = are.roomy;
+  few = let few = are.few in let short = length_less lines k in omega arith;
 }
 
 -- all but the last

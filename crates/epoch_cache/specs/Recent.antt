@@ -1,7 +1,7 @@
 -- Where the newest line of each sector stands, kept beside the lines: lines are numbered in order as they come, the first of
 -- those held has the number `first`, and a map has the number of each sector's newest line. Where that is less than `first`,
 -- the line went.
-use Rattle.std.specs.Prelude.{◌≡◌, ◌≢◌, ℕ, ◌+◌, ◌-◌, ◌*◌, ◌^◌, ◌<◌, ◌≤◌, List, length, Option, None, Some, if◌then◌else◌, nat_eq, nat_lt, slice_index_or}
+use Rattle.std.specs.Prelude.{◌≡◌, ◌≢◌, ℕ, Bool, false, ◌+◌, ◌-◌, ◌*◌, ◌^◌, ◌<◌, ◌≤◌, List, length, Option, None, Some, if◌then◌else◌, nat_eq, nat_lt, slice_index_or}
 use Rattle.std.specs.declared.hash.FoldHasher.{FoldHasher}
 use Rattle.std.specs.declared.hash.BuildHasherDefault.{BuildHasherDefault}
 use Rattle.indexmap.specs.IndexMap.{IndexMap, get, index_map_len, spare}
@@ -34,8 +34,9 @@ pub record IsNewest (lines : List Line) (s : ℕ) (place : Option ℕ) : Type 0 
 abbrev pub AreFound : List Line → Places → (first : ℕ) → Type 0
 AreFound lines places first = (s : ℕ) → IsNewest lines s (place_in places first s)
 
--- each sector's last line is found, more sectors fit than lines, and there are numbers left
-pub record AreMarked (lines : List Line) (room : ℕ) (places : Places) (first : ℕ) : Type 0 where
-  pub found : AreFound lines places first
+-- each sector's last line is found, unless a line went from between others since all were numbered; more sectors fit than lines,
+-- and there are numbers left
+pub record AreMarked (lines : List Line) (room : ℕ) (places : Places) (first : ℕ) (stale : Bool) : Type 0 where
+  pub found : stale ≡ false → AreFound lines places first
   pub roomy : 2 * room ≤ index_map_len places + spare places
   pub few : first + length lines ≤ 2 ^ 63 + 65535

@@ -2,7 +2,7 @@ ghost use Rattle.std.specs.Prelude.{◌≡◌, ◌↔◌, ◌+◌, ◌-◌, ◌<
 ghost use Rattle.std.specs.List.{list_any};
 ghost use Rattle.std.specs.Option.{option_copied};
 ghost use Rattle.indexmap.specs.IndexMap.{index_map_len, spare};
-ghost use Rattle.epoch_cache.specs.Recent.{AreMarked};
+ghost use Rattle.epoch_cache.specs.Recent.{AreMarked, IsNewest};
 ghost use Rattle.epoch_cache.specs.Cache.{IsCache, IsPlace, is_of, lines_with, newest_of, next_epoch, renewed};
 
 use crate::Line;
@@ -26,6 +26,8 @@ pub struct EpochCache {
     table: LineTable,
     last: u32,
     recent: Recent,
+    // Whether a line went from between others since all were numbered: `recent` says nothing then.
+    stale: bool,
 }
 
 impl Model for EpochCache {
@@ -37,7 +39,7 @@ impl Model for EpochCache {
 
     ghost view = { λ c. record { lines = c.table.lines; last = c.last; room = c.table.room } };
 
-    ghost invariant = { λ c. IsCache (record { lines = c.table.lines; last = c.last; room = c.table.room }) × AreMarked c.table.lines c.table.room c.recent.places c.recent.first × (c.table.room ≤ 65535) };
+    ghost invariant = { λ c. IsCache (record { lines = c.table.lines; last = c.last; room = c.table.room }) × AreMarked c.table.lines c.table.room c.recent.places c.recent.first c.stale × (c.table.room ≤ 65535) };
 }
 
 impl EpochCache {
@@ -52,6 +54,7 @@ impl EpochCache {
             table,
             last: 0,
             recent,
+            stale: false,
         })
     }
 
@@ -63,6 +66,7 @@ impl EpochCache {
         self.table.clear();
         self.last = 0;
         self.recent.clear();
+        self.stale = false;
     }
 
     /// Gives the sector's line in the last epoch a new value at its place, or adds one. A line is whole once a reliable put
@@ -87,7 +91,8 @@ impl EpochCache {
             whole: put.reliable,
             epoch: self.last,
         });
-        mark_last(&mut self.recent, &self.table);
+        mark_last(&mut self.recent, &self.table, self.stale);
+        self.stale = false;
         Ok(())
     }
 
@@ -110,8 +115,8 @@ impl EpochCache {
     pub fn newest(&self, sector: u32) -> Option<&Block>
         ensures { option_copied result ≡ newest_of sector self.now.lines }
     {
-        let k = self.recent.place(sector)?;
-        Some(&self.table.at(k as u16).value)
+        let k = self.last_place(sector)?;
+        Some(&self.table.at(k).value)
     }
 
     /// Whether there is any line.
@@ -166,7 +171,8 @@ impl EpochCache {
         self.drop_oldest_at(0);
     }
 
-    /// Takes line `k` in order out, 0 the oldest. One in front of which others stand costs a step for each line.
+    /// Takes line `k` in order out, 0 the oldest. After one in front of which others stand a search costs a step for each line, until
+    /// a line is added or `mark_lines` is called.
     pub fn drop_oldest_at(&mut self, k: u16)
         requires { k < length self.old.lines }
         ensures dropped { self.new ≡ record self.old { lines = remove self.old.lines k } }
@@ -176,7 +182,18 @@ impl EpochCache {
         if k == 0 {
             self.recent.shift();
         } else {
+            self.stale = true;
+        }
+    }
+
+    /// Makes a search cost the same again however many lines there are, once lines went from between others.
+    pub fn mark_lines(&mut self)
+        ensures same { self.new ≡ self.old }
+        ensures is_cache { IsCache self.new }
+    {
+        if self.stale {
             mark_all(&mut self.recent, &self.table);
+            self.stale = false;
         }
     }
 
@@ -204,24 +221,50 @@ impl EpochCache {
         ensures none { IsNone result → list_any (is_of self.now.last sector) self.now.lines ≡ false }
         ensures is_cache { IsCache self.now }
     {
-        let k = self.recent.place(sector)? as u16;
+        let k = self.last_place(sector)?;
         if self.table.at(k).epoch == self.last {
             Some(k)
         } else {
             None
         }
     }
+
+    // Where in order the last line of the sector is.
+    fn last_place(&self, sector: u32) -> Option<u16>
+        ensures newest { IsNewest self.now.lines sector result }
+        ensures is_cache { IsCache self.now }
+    {
+        if self.stale {
+            return last_of(&self.table, sector);
+        }
+        let k = self.recent.place(sector)?;
+        Some(k as u16)
+    }
+}
+
+// Looks for the last line of a sector, from the newest line on.
+fn last_of(table: &LineTable, sector: u32) -> Option<u16>
+    ensures { IsNewest table.now.lines sector result }
+{
+    let mut k = table.len();
+    while k > 0 {
+        k -= 1;
+        if table.at(k).sector == sector {
+            return Some(k);
+        }
+    }
+    None
 }
 
 // Notes the newest line, which came behind all others.
-fn mark_last(recent: &mut Recent, table: &LineTable)
+fn mark_last(recent: &mut Recent, table: &LineTable, stale: bool)
     requires some { 0 < length table.now.lines }
     requires fits { length table.now.lines ≤ table.now.room }
-    requires before { AreMarked (take (length table.now.lines - 1) table.now.lines) table.now.room recent.old.places recent.old.first }
-    ensures { AreMarked table.now.lines table.now.room recent.new.places recent.new.first }
+    requires before { AreMarked (take (length table.now.lines - 1) table.now.lines) table.now.room recent.old.places recent.old.first stale }
+    ensures { AreMarked table.now.lines table.now.room recent.new.places recent.new.first false }
 {
     let k = table.len() - 1;
-    if recent.first() < MOST_FIRST && recent.mark(table.at(k).sector, k) {
+    if !stale && recent.first() < MOST_FIRST && recent.mark(table.at(k).sector, k) {
         return;
     }
     mark_all(recent, table);
@@ -231,7 +274,7 @@ fn mark_last(recent: &mut Recent, table: &LineTable)
 fn mark_all(recent: &mut Recent, table: &LineTable)
     requires fits { length table.now.lines ≤ table.now.room }
     requires room { 2 * table.now.room ≤ index_map_len recent.old.places + spare recent.old.places }
-    ensures { AreMarked table.now.lines table.now.room recent.new.places recent.new.first }
+    ensures { AreMarked table.now.lines table.now.room recent.new.places recent.new.first false }
 {
     recent.clear();
     for k in 0..table.len() {

@@ -1,2 +1,3 @@
 mod Copies
+mod PageLaws
 pub mod MemoryLaws

@@ -1,9 +1,9 @@
 -- The laws of a memory: what is written is read, and the bytes elsewhere stay.
 use Rattle.std.proofs.Common.{◌≡◌, ℕ, zero, suc, ◌+◌, ◌-◌, ◌<◌, ◌≤◌, ◌⊎◌, inl, inr, List, [], ◌∷◌, ◌++◌, length, take, drop, refl, sym, ap, ◌∙◌, arith, append_assoc, length-append, length-drop}
-use Rattle.std.proofs.lemmas.List.{drop-append-le, take-append-le, drop_all, drop-take, length-take, take-append-drop, drop-drop}
+use Rattle.std.proofs.lemmas.List.{drop-append-le, take-append-le, drop_all, length-take, take-append-drop, drop-drop}
 use Rattle.std.proofs.lemmas.Slice.{drop-append-drop}
 use Rattle.host_mem.specs.Memory.{Memory, HasRange, bytes_of, with_bytes}
-use Rattle.host_mem.proofs.Copies.{rejoined}
+use Rattle.host_mem.proofs.Copies.{part, rejoined}
 
 -- a range that isn't empty lies between the ends
 pub record IsBetween (memory : Memory) (at len : ℕ) : Type 0 where
@@ -124,19 +124,6 @@ bytes_of-with_bytes_apart memory at (x ∷ from) start (suc n) range other apart
       | inr below ↦ joined-below place (start - memory.base) (suc n) ((x ∷ from) ++ drop (place + length (x ∷ from)) memory.bytes) memory.bytes
           (omega (arith, ends.low, others.low)) (omega (arith, ends.low, ends.high))
     ]
-
-take_twice : (n m : ℕ) (ys : List ℕ) → n ≤ m → take n (take m ys) ≡ take n ys
-take_twice zero m ys h = refl
-take_twice (suc n) zero ys h = absurd (omega arith)
-take_twice (suc n) (suc m) [] h = refl
-take_twice (suc n) (suc m) (y ∷ ys) h = let less : n ≤ m = omega arith in ap (λ l. y ∷ l) (take_twice n m ys less)
-
-part : (k n len : ℕ) (bytes : List ℕ) → k + n ≤ len → take n (drop k (take len bytes)) ≡ take n (drop k bytes)
-part k n len bytes h =
-    let m = len - k in
-    let whole : len ≡ k + m = omega arith in
-    let short : n ≤ m = omega arith in
-    ap (λ l. take n (drop k (take l bytes))) whole ∙ ap (take n) (drop-take k m bytes) ∙ take_twice n m (drop k bytes) short
 
 -- a part of a range
 pub bytes_of-part : (memory : Memory) (at len k n : ℕ) → memory.base ≤ at → k + n ≤ len

@@ -2,5 +2,6 @@
 #![tactic(auto)]
 
 mod memory;
+mod pages;
 
 pub use memory::{HostMem, OutOfMemorySpace};

@@ -1,5 +1,6 @@
 ghost use Rattle.std.specs.Prelude.{◌≡◌, ◌↔◌, ◌+◌, ◌-◌, ◌<◌, ◌≤◌, ◌^◌, ℕ, IfOk, IsOk, IsTrue, OnErr, OnOk, length, replicate};
 
+use crate::pages::{PAGE_BYTES, Pages};
 use std::alloc::Global;
 use std::marker::Model;
 use storage_model::NoMemory;
@@ -12,18 +13,20 @@ pub struct OutOfMemorySpace;
 #[derive(Debug, Drop)]
 pub struct HostMem {
     base: u64,
-    bytes: Vec<u8>,
+    len: usize,
+    // The last page has bytes that aren't in the range, where the length isn't that of whole pages.
+    pages: Pages,
 }
 
 impl Model for HostMem {
-    ghost use Rattle.std.specs.Prelude.{◌+◌, ◌<◌, ◌^◌, length};
+    ghost use Rattle.std.specs.Prelude.{◌+◌, ◌<◌, ◌≤◌, ◌^◌, length, take};
     ghost use Rattle.host_mem.specs.Memory.{Memory};
 
     ghost Value = { Memory };
 
-    ghost view = { λ it. record { base = it.base; bytes = it.bytes.items } };
+    ghost view = { λ it. record { base = it.base; bytes = take it.len it.pages } };
 
-    ghost invariant = { λ it. it.base + length it.bytes.items < 2 ^ 64 };
+    ghost invariant = { λ it. (it.base + it.len < 2 ^ 64) × (it.len ≤ length it.pages) };
 }
 
 impl HostMem {
@@ -34,8 +37,9 @@ impl HostMem {
         requires { base + len ≤ 2 ^ 64 - 1 }
         ensures { IfOk result (λ memory. memory ≡ record { base = base; bytes = replicate len 0 }) }
     {
-        let bytes = vec![in alloc; 0; len as usize]?;
-        Ok(HostMem { base, bytes })
+        let len = len as usize;
+        let pages = Pages::start(alloc, len.div_ceil(PAGE_BYTES))?;
+        Ok(HostMem { base, len, pages })
     }
 
     /// Whether there is a byte at each of the `len` addresses from `at` on.
@@ -53,7 +57,7 @@ impl HostMem {
         ensures below { OnOk result (at + 1 < 2 ^ 64) }
     {
         let place = self.place_of(at, 1)?;
-        Ok(self.bytes[place])
+        Ok(self.pages.get(place))
     }
 
     /// Puts a byte at the address. After an error the memory is as it was.
@@ -63,7 +67,7 @@ impl HostMem {
         ensures err { OnErr result (self.new ≡ self.old) }
     {
         let place = self.place_of(at, 1)?;
-        self.bytes[place] = value;
+        self.pages.set(place, value);
         Ok(())
     }
 
@@ -76,7 +80,7 @@ impl HostMem {
         ensures below { OnOk result (at + length to.old < 2 ^ 64) }
     {
         let place = self.place_of(at, to.len())?;
-        to.copy_from_slice(&self.bytes[place..place + to.len()]);
+        self.pages.copy_out(place, to);
         Ok(())
     }
 
@@ -89,7 +93,7 @@ impl HostMem {
         ensures below { OnOk result (at + length from.now < 2 ^ 64) }
     {
         let place = self.place_of(at, from.len())?;
-        self.bytes[place..place + from.len()].copy_from_slice(from);
+        self.pages.copy_in(place, from);
         Ok(())
     }
 
@@ -107,10 +111,10 @@ impl HostMem {
             return Err(OutOfMemorySpace);
         }
         let place = (at - self.base) as usize;
-        if place >= self.bytes.len() {
+        if place >= self.len {
             return Err(OutOfMemorySpace);
         }
-        if self.bytes.len() - place < len {
+        if self.len - place < len {
             return Err(OutOfMemorySpace);
         }
         Ok(place)

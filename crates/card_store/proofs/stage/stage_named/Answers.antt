@@ -34,4 +34,5 @@ loop-line-preserved g c =
 pub returns-clause-left : goal.returns-clause-left
 returns-clause-left g c =
     let past : length c.loop-line.cache.lines ≤ c.loop-line.k = search rules in
-    sym (filter-spared_front (is_named c.args.first c.args.blocks) c.loop-line.cache.lines c.loop-line.k past c.loop-line.invariant.2) ∙ c.loop-line.invariant.4
+    rw c.mark_lines.ensures.same
+    (sym (filter-spared_front (is_named c.args.first c.args.blocks) c.loop-line.cache.lines c.loop-line.k past c.loop-line.invariant.2) ∙ c.loop-line.invariant.4)

@@ -1,4 +1,4 @@
-use Rattle.std.proofs.Common.{Some, ap, sym, ◌∙◌, arith, eq-eqb, get_or}
+use Rattle.std.proofs.Common.{Some, ap, sym, ◌∙◌, eq-eqb, get_or}
 use Rattle.std.specs.Option.{option_copied}
 use Rattle.std.proofs.lemmas.Bool.{eqb-true, false_from_ne_true}
 use Rattle.std.specs.Prelude.{◌==◌}
@@ -8,24 +8,15 @@ use Rattle.epoch_cache.proofs.cache.EpochCache.newest.Goals as goal
 
 pub returns-in_err-k : goal.returns-in_err-k
 returns-in_err-k c =
-    let newest = c.self.invariant.1.found c.args.sector in
-    let none = newest.none (sym c.place.ensures ∙ c.in_err-k.was) in
-    rw (← c.self.view_is)
-    (ap option_copied c.from_residual.ensures
-    ∙ sym (newest_of-none c.args.sector c.self.inside.table.lines
-    (λ k d below. false_from_ne_true ((get_or c.self.inside.table.lines k d).sector == c.args.sector) (λ it. none k d below (eqb-true _ _ it)))))
-
-pub overflow_cast-k : goal.overflow_cast-k
-overflow_cast-k c =
-    let is = (c.self.invariant.1.found c.args.sector).some c.in_ok-k.k (sym c.place.ensures ∙ c.in_ok-k.was) in
-    let within = is.within in
-    let fits = c.self.invariant.0.fits in
-    let most = c.self.invariant.2 in
-    omega arith
+    let newest = c.last_place.ensures.newest in
+    let none = newest.none c.in_err-k.was in
+    ap option_copied c.from_residual.ensures
+    ∙ sym (newest_of-none c.args.sector c.args.self.now.lines
+    (λ k d below. false_from_ne_true ((get_or c.args.self.now.lines k d).sector == c.args.sector) (λ it. none k d below (eqb-true _ _ it))))
 
 pub returns : goal.returns
 returns c =
-    let is = (c.self.invariant.1.found c.args.sector).some c.in_ok-k.k (sym c.place.ensures ∙ c.in_ok-k.was) in
+    let is = rw (← c.self.view_is) at (c.last_place.ensures.newest.some c.in_ok-k.k c.in_ok-k.was) in
     rw (← c.self.view_is)
     (ap (λ (line : Line). Some line.value) c.at.ensures
     ∙ sym (newest_of-some c.args.sector c.self.inside.table.lines c.in_ok-k.k c.at.result.now is.within (eq-eqb _ _ (is.here c.at.result.now))

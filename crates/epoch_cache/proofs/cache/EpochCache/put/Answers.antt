@@ -13,7 +13,7 @@ invariant_of-self c =
     let sector = ap (λ (l : Line). l.sector) (line ∙ ap (renewed c.args.put.now) read) in
     rw c.set.ensures (
       cache_set c.self.inside.table.lines c.self.inside.last c.self.inside.table.room c.in-Some.k c.args.put.now.sector c.renew-line.result c.at.result.now c.self.invariant.0 place (ap (λ (l : Line). l.epoch) (line ∙ ap (renewed c.args.put.now) read)) (ap (λ (l : Line). l.sector) (line ∙ ap (renewed c.args.put.now) read)),
-      marked_set c.self.inside.table.lines c.self.inside.table.room c.self.inside.recent.places c.self.inside.recent.first c.in-Some.k c.renew-line.result c.at.result.now place.within sector c.self.invariant.1,
+      marked_set c.self.inside.table.lines c.self.inside.table.room c.self.inside.recent.places c.self.inside.recent.first c.in-Some.k c.self.inside.stale c.renew-line.result c.at.result.now place.within sector c.self.invariant.1,
       c.self.invariant.2,
     )
 
