@@ -4,8 +4,7 @@ use Rattle.array_edge.specs.Array.{ArrayState}
 use Rattle.cut_order.specs.Order.{OrderState, order_of}
 use Rattle.join_laws.proofs.Idle.{idle}
 use Rattle.join_laws.proofs.Lines.{ends_off}
-use Rattle.join_laws.proofs.Near.{near_losing}
-use Rattle.join_laws.specs.Flushes.{IsAtLast, IsFlushBackOn, IsFlushEnded, IsFlushStopped, IsFlushStoppedAtCut}
+use Rattle.join_laws.specs.Flushes.{IsAtLast, IsFlushBackOn, IsFlushEnded, IsFlushStopped}
 use Rattle.join_laws.specs.Joins.{before}
 use Rattle.run_laws.specs.Whole.{Drops}
 use Rattle.storage_machine.specs.declared.state.State.{State}
@@ -60,6 +59,3 @@ module _ (w : WorldState) (c : Context) where
 
   pub flush_stopped : (whole : List Item) (a : ArrayState) → IsFlushStopped w c whole a
   flush_stopped whole a at dark = ((whole, dark.last, refl, drops whole dark.last at dark.more), dark.near)
-
-  pub flush_stopped_at_cut : (p : PathState) (o : OrderState) (a : ArrayState) → IsFlushStoppedAtCut w c p o a
-  flush_stopped_at_cut p o a losing = near_losing (before w c) p o a losing

@@ -5,16 +5,20 @@ use Rattle.cut_order.specs.Order.{OrderState}
 use Rattle.join_laws.proofs.Joins.{begins, first, rules, rules_cut}
 use Rattle.join_laws.proofs.Lines.{goes_cut, goes_front, makes_front, stays_front, stays_none, yields_front}
 use Rattle.join_laws.proofs.Near.{near_losing}
-use Rattle.join_laws.specs.Fronts.{IsStoppedAtCut, IsStoppedBehind, IsStoppedDark, IsStoppedLit, Stopped}
+use Rattle.join_laws.specs.Fronts.{IsStoppedAtCut, IsStoppedBehind, IsStoppedDark, IsStoppedLast, IsStoppedLit, Stopped}
 use Rattle.join_laws.specs.Joins.{DarkIn, OwnLines, before, within}
+use Rattle.storage_machine.specs.Commands.{due}
+use Rattle.storage_machine.specs.declared.state.Owed.{Owed}
 use Rattle.storage_machine.specs.declared.state.State.{State}
+use Rattle.storage_model.specs.declared.block.Block.{Block}
 use Rattle.storage_model.specs.declared.faults.Letter.{Letter}
 use Rattle.storage_model.specs.declared.trace.Item.{Item}
 use Rattle.storage_model.specs.declared.trace.Item.TheVariants.{Cut}
-use Rattle.storage_order.specs.Events.{Goes, Starts}
+use Rattle.storage_order.specs.Events.{Goes, Lasts, Starts, closed}
 use Rattle.trace_effects.specs.Effects.{effect}
 use Rattle.world_state.specs.Path.{PathState}
-use Rattle.world_state.specs.Reading.{Context}
+use Rattle.world_state.specs.Reading.{Context, state_of}
+use Rattle.world_state.specs.Stands.{IsNear}
 use Rattle.world_state.specs.Told.{Told}
 use Rattle.world_steps.specs.Steps.{KeepsRules}
 use Rattle.world_steps.specs.World.{WorldState, order_in}
@@ -47,6 +51,22 @@ module _ (w : WorldState) (c : Context) (actor : Letter) (whole : List Item) (it
   pub stopped_dark : IsStoppedDark w c actor whole item rest
   stopped_dark items p a are own d =
       dark p a (subst (OwnLines w c actor) are own) (subst (λ xs. DarkIn w c actor xs p a) are d)
+
+-- all of them
+near_closed : (last : State) (owed : Owed) (pages : List Block) → IsNear (record last { owed = owed }) pages → IsNear last pages
+unfolding due
+near_closed last owed pages near = record { count = near.count; near = near.near }
+
+pub stopped_last : (w : WorldState) (c : Context) (actor : Letter) (item : Item) (others : List Item) (p : PathState) (o : OrderState) (a : ArrayState) → IsStoppedLast w c actor item others p o a
+stopped_last w c actor item others p o a own told =
+    let items = item ∷ others in
+    let lasts : Lasts (first w c actor) item others (state_of p o told.context) = told.happens.makes in
+    record {
+      last = lasts.last;
+      begun = begins w c actor items items lasts.last own (record { free = told.happens.free; untold = told.happens.untold; goes = lasts.begins })
+          (rules w c actor items items own (stays_none (first w c actor) items own.none) (λ yields. yields));
+      near = λ pages near. near_closed lasts.last (closed lasts.last.owed) pages (subst (λ (x : State). IsNear x pages) lasts.state near);
+    }
 
 module _ (w : WorldState) (c : Context) (actor : Letter) (items : List Item) (p : PathState) (a : ArrayState) where
   pub stopped_at_cut : IsStoppedAtCut w c actor items p a

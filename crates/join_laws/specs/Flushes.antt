@@ -8,13 +8,12 @@ use Rattle.storage_model.specs.declared.trace.End.{End}
 use Rattle.storage_model.specs.declared.trace.Item.{Item}
 use Rattle.storage_model.specs.declared.trace.Item.TheVariants.{Cut, Off}
 use Rattle.array_edge.specs.Array.{ArrayState}
-use Rattle.cut_order.specs.Order.{OrderState}
 use Rattle.intent_store.specs.Intent.{shown_by}
 use Rattle.join_laws.specs.Joins.{before}
 use Rattle.world_state.specs.Path.{PathState}
 use Rattle.world_state.specs.Reading.{Context}
 use Rattle.world_state.specs.Stands.{IsNear}
-use Rattle.world_state.specs.Told.{ComesBack, IsLosing, StaysDark}
+use Rattle.world_state.specs.Told.{ComesBack, StaysDark}
 use Rattle.world_state.specs.Ties.{AreTied}
 use Rattle.world_steps.specs.Reading.{Reads}
 use Rattle.world_steps.specs.World.{StandsFor, WorldState}
@@ -36,10 +35,7 @@ IsFlushEnded w c first end a =
     IsAtLast w c → StaysDark (before w c) (first ++ Off end ∷ []) a
     → (t : State) × Dropped (before w c) (Cut ∷ (first ++ Off end ∷ [])) t × (t.owed ≡ Ended) × IfSome (shown_by a) (IsNear t)
 
--- the sink fails behind these whole lines, or in the cut's
+-- the sink fails in the cut's line, or in the last of those behind it
 abbrev pub IsFlushStopped : WorldState → Context → List Item → ArrayState → Type 0
 IsFlushStopped w c whole a =
     IsAtLast w c → StaysDark (before w c) whole a → (first : DropsFirst (before w c) (Cut ∷ whole)) × IfSome (shown_by a) (IsNear first.1)
-
-abbrev pub IsFlushStoppedAtCut : WorldState → Context → PathState → OrderState → ArrayState → Type 0
-IsFlushStoppedAtCut w c p o a = IsLosing (before w c) p o a → IfSome (shown_by a) (IsNear (before w c))

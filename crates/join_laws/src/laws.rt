@@ -1,8 +1,8 @@
 // What the lines of an event, of its cut and of the rest make of a step.
 ghost use Rattle.array_edge.specs.Array.{ArrayState};
 ghost use Rattle.cut_order.specs.Order.{OrderState};
-ghost use Rattle.join_laws.specs.Flushes.{IsFlushBackOn, IsFlushEnded, IsFlushStopped, IsFlushStoppedAtCut};
-ghost use Rattle.join_laws.specs.Fronts.{IsStoppedAtCut, IsStoppedBehind, IsStoppedDark, IsStoppedLit};
+ghost use Rattle.join_laws.specs.Flushes.{IsFlushBackOn, IsFlushEnded, IsFlushStopped};
+ghost use Rattle.join_laws.specs.Fronts.{IsStoppedAtCut, IsStoppedBehind, IsStoppedDark, IsStoppedLast, IsStoppedLit};
 ghost use Rattle.join_laws.specs.Joins.{IsBackOn, IsEndedIn, IsLit};
 ghost use Rattle.join_laws.specs.Uses.{IsUsedBehind};
 ghost use Rattle.std.specs.Prelude.{List};
@@ -22,11 +22,12 @@ pub fn events_go_on()
     ensures ended { (w : WorldState) → (c : Context) → (actor : Letter) → (items : List Item) → (p : PathState) → (a : ArrayState) → (first : List Item) → (end : End) → (a' : ArrayState) → IsEndedIn w c actor items p a first end a' }
 {}
 
-/// Whole lines before one that broke off begin the event, and behind the cut the pages are near the state after them.
+/// The lines up to one that broke off begin the event, and the pages are near the state behind it.
 #[tactic(auto)]
 pub fn events_break_off()
     ensures lit { (w : WorldState) → (c : Context) → (actor : Letter) → (whole : List Item) → (item : Item) → (rest : List Item) → IsStoppedLit w c actor whole item rest }
     ensures dark { (w : WorldState) → (c : Context) → (actor : Letter) → (whole : List Item) → (item : Item) → (rest : List Item) → IsStoppedDark w c actor whole item rest }
+    ensures last { (w : WorldState) → (c : Context) → (actor : Letter) → (item : Item) → (others : List Item) → (p : PathState) → (o : OrderState) → (a : ArrayState) → IsStoppedLast w c actor item others p o a }
     ensures cut { (w : WorldState) → (c : Context) → (actor : Letter) → (items : List Item) → (p : PathState) → (a : ArrayState) → IsStoppedAtCut w c actor items p a }
     ensures behind { (w : WorldState) → (c : Context) → (actor : Letter) → (items : List Item) → (p : PathState) → (a : ArrayState) → (whole : List Item) → (a' : ArrayState) → IsStoppedBehind w c actor items p a whole a' }
 {}
@@ -37,7 +38,6 @@ pub fn flushes_lose_power()
     ensures back { (w : WorldState) → (c : Context) → (more : List Item) → (p : PathState) → (a : ArrayState) → IsFlushBackOn w c more p a }
     ensures ended { (w : WorldState) → (c : Context) → (first : List Item) → (end : End) → (a : ArrayState) → IsFlushEnded w c first end a }
     ensures stopped { (w : WorldState) → (c : Context) → (whole : List Item) → (a : ArrayState) → IsFlushStopped w c whole a }
-    ensures cut { (w : WorldState) → (c : Context) → (p : PathState) → (o : OrderState) → (a : ArrayState) → IsFlushStoppedAtCut w c p o a }
 {}
 
 /// Behind an event in which power is lost, the letters and the `cut` lines are used as the world says.

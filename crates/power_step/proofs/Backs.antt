@@ -1,5 +1,5 @@
 -- The power is on again: the path is set up anew, and what is left is shown.
-use Rattle.std.proofs.Common.{◌≡◌, ◌∙◌, ◌++◌, ◌∷◌, ◌<◌, inr, ℕ, true, All, IfSome, List, [], Option, None, Some, OnOk, Result, Ok, Err, is_some, length, map, option_map, unwrap_or, ap, refl, sym, subst, arith}
+use Rattle.std.proofs.Common.{◌≡◌, ◌∙◌, ◌++◌, ◌∷◌, ◌<◌, inl, inr, ℕ, true, All, IfSome, List, [], Option, None, Some, OnOk, Result, Ok, Err, is_some, length, map, option_map, unwrap_or, ap, refl, sym, subst, arith}
 use Rattle.io_edge.specs.Sink.{Joins}
 use Rattle.storage_machine.specs.declared.state.State.{State}
 use Rattle.storage_model.specs.Count.{Later}
@@ -14,7 +14,7 @@ use Rattle.trace_effects.specs.Effects.{effect}
 use Rattle.trace_print.specs.Prints.{RoseBy, halt_faults, is_cut_line, is_flash}
 use Rattle.trace_text.specs.Trace.{items_text}
 use Rattle.array_edge.specs.Array.{ArrayState}
-use Rattle.intent_store.specs.Intent.{shown_by}
+use Rattle.intent_store.specs.Intent.{ShowsImage, shown_by}
 use Rattle.card_core.specs.Card.{CardState, idle_card, set_up as card_set_up}
 use Rattle.card_store.specs.Store.{Contents, IsStore, Stands}
 use Rattle.cut_laws.specs.Laws.{further_cuts}
@@ -33,14 +33,14 @@ use Rattle.dark_laws.specs.Ends.{ShowsSome}
 use Rattle.dark_laws.specs.Kept.{LeavesSo}
 use Rattle.world_state.specs.Path.{PathState, plan_of}
 use Rattle.world_state.specs.Told.{ComesBack, IsLosing, StaysDark}
-use Rattle.power_step.specs.Cut.{ArePlain, EndsLeft, IsKept, IsOpened, IsRead, LeftWritten, LostWritten, OpensAgain, ShowsFirst}
+use Rattle.power_step.specs.Cut.{ArePlain, EndsLeft, EndsUnread, IsKept, IsOpened, IsRead, LeftWritten, LostWritten, OpensAgain, ShowsFirst, ShowsTaken}
 use Rattle.power_step.specs.Loses.{HasEnd, IsBackOn, Leaves, Loses}
-use Rattle.power_step.specs.Wrote.{Wrote}
+use Rattle.power_step.specs.Wrote.{TakesPart, Wrote}
 use Rattle.power_step.proofs.Counting.{count_join, count_no, cuts_counted, cuts_flash, later_both, rose_before}
 use Rattle.power_step.proofs.Darks.{AreCounted, causes_of, counted_behind}
 use Rattle.power_step.proofs.Lefts.{ends_behind, read_shown}
 use Rattle.power_step.proofs.Sectors.{one_at, part_at, sectors_below}
-use Rattle.power_step.proofs.Taking.{wrote_behind}
+use Rattle.power_step.proofs.Taking.{part_behind, wrote_behind}
 
 -- an array that tells its pages shows contents
 pub record Shows (a : ArrayState) : Type 0 where
@@ -94,6 +94,7 @@ kept_read cuts faults card1 card2 a a1 a2 kept read rose =
     record {
       shown = read_shown card1 card2 a1 a2 read ∙ kept.shown;
       tells = ap (λ x. is_some x.told) read.array ∙ kept.tells;
+      image = λ is. subst (λ (x : ArrayState). ShowsImage x) (sym read.array) (kept.image is);
       later_faults = later_both a.faults a1.faults a2.faults kept.later_faults read.faults;
       later_cuts = subst (λ n. Later a.cuts n) same kept.later_cuts;
       cut = subst (λ n. RoseBy cuts a.cuts n) same kept.cut;
@@ -122,29 +123,43 @@ module _ (s : State) (o : OrderState) (p p' : PathState) (a a' : ArrayState) (ou
   so : LeavesSo s ids cuts after
   so = left_so s p o a out losing ids cuts after leads
 
-  pub leaves_by : (result : Result (Unit {0}) Halt) (items : List Item) → OnOk result (IsSetAnew p a p' a') → ShowsFirst (put_sectors s.pend (length after)) after result items → Leaves s (lines_on ids cuts items) result p' a'
-  leaves_by (Ok done) items anew is = subst (λ xs. ComesBack s (lines_on ids cuts xs) p' a') (sym is) (is_back s p o a p' a' out losing anew ids cuts after leads)
-  leaves_by (Err SinkFailed) items anew shows =
+  pub leaves_taken : (items : List Item) → ShowsTaken (put_sectors s.pend (length after)) after items → StaysDark s (lines_on ids cuts items) a'
+  leaves_taken items shows =
       let part = part_at s.pend (length after) shows.0 shows.1 in
       let are : items ≡ lines_below s.pend after part.sector = shows.2 ∙ ap (map (left_line after)) part.are in
       subst (λ xs. StaysDark s (lines_on ids cuts xs) a') (sym are) ((ends_dark s p o a a').leaving ids cuts after part.sector some part.below)
-  leaves_by (Err OpenFault) items anew shows =
+
+  leaves_unread : (items : List Item) → EndsUnread (put_sectors s.pend (length after)) after items → StaysDark s (lines_on ids cuts items) a'
+  leaves_unread items shows =
       let front = one_at s.pend (length after) shows.0 shows.1 in
       let are : items ≡ lines_below s.pend after front.sector ++ Off Fault ∷ [] = shows.2 ∙ ap (λ xs. map (left_line after) xs ++ Off Fault ∷ []) front.are in
       subst (λ xs. StaysDark s (lines_on ids cuts xs) a') (sym are) ((ends_dark s p o a a').unread ids cuts after front.sector some front.below front.put)
+
+  pub leaves_by : (result : Result (Unit {0}) Halt) (items : List Item) → OnOk result (IsSetAnew p a p' a') → ShowsFirst (put_sectors s.pend (length after)) after result items → Leaves s (lines_on ids cuts items) result p' a'
+  leaves_by (Ok done) items anew is = subst (λ xs. ComesBack s (lines_on ids cuts xs) p' a') (sym is) (is_back s p o a p' a' out losing anew ids cuts after leads)
+  leaves_by (Err SinkFailed) items anew (inl shows) = leaves_taken items shows
+  leaves_by (Err SinkFailed) items anew (inr shows) = leaves_unread items shows
+  leaves_by (Err OpenFault) items anew shows = leaves_unread items shows
   leaves_by (Err PowerGone) items anew none = absurd none
   leaves_by (Err BadImage) items anew none = absurd none
 
-  pub so_by : (result : Result (Unit {0}) Halt) (items : List Item) → ShowsFirst (put_sectors s.pend (length after)) after result items → StaysSo (effect s Cut) (lines_on ids cuts items)
-  so_by (Ok done) items is = subst (λ xs. StaysSo (effect s Cut) (lines_on ids cuts xs)) (sym is) so.all
-  so_by (Err SinkFailed) items shows =
+  pub so_taken : (items : List Item) → ShowsTaken (put_sectors s.pend (length after)) after items → StaysSo (effect s Cut) (lines_on ids cuts items)
+  so_taken items shows =
       let part = part_at s.pend (length after) shows.0 shows.1 in
       let are : items ≡ lines_below s.pend after part.sector = shows.2 ∙ ap (map (left_line after)) part.are in
       subst (λ xs. StaysSo (effect s Cut) (lines_on ids cuts xs)) (sym are) (so.below part.sector part.below)
-  so_by (Err OpenFault) items shows =
+
+  so_unread : (items : List Item) → EndsUnread (put_sectors s.pend (length after)) after items → StaysSo (effect s Cut) (lines_on ids cuts items)
+  so_unread items shows =
       let front = one_at s.pend (length after) shows.0 shows.1 in
       let are : items ≡ lines_below s.pend after front.sector ++ Off Fault ∷ [] = shows.2 ∙ ap (λ xs. map (left_line after) xs ++ Off Fault ∷ []) front.are in
       subst (λ xs. StaysSo (effect s Cut) (lines_on ids cuts xs)) (sym are) (so.unread front.sector (let few = front.below in omega (arith, few)))
+
+  pub so_by : (result : Result (Unit {0}) Halt) (items : List Item) → ShowsFirst (put_sectors s.pend (length after)) after result items → StaysSo (effect s Cut) (lines_on ids cuts items)
+  so_by (Ok done) items is = subst (λ xs. StaysSo (effect s Cut) (lines_on ids cuts xs)) (sym is) so.all
+  so_by (Err SinkFailed) items (inl shows) = so_taken items shows
+  so_by (Err SinkFailed) items (inr shows) = so_unread items shows
+  so_by (Err OpenFault) items shows = so_unread items shows
   so_by (Err PowerGone) items none = absurd none
   so_by (Err BadImage) items none = absurd none
 
@@ -231,17 +246,54 @@ module _ {K : Type 0} (took : K → List ℕ → K → Type 0) (both : Joins too
     pub loses_on : OnOk result (IsStore card2.store) → Loses took p a old result q a2 new
     loses_on store =
         let counted = counted_behind opens.cuts lost.ids (further_cuts opens.cuts ++ On ∷ left.items) (counted_left opens.cuts left.items left.plain) in
-        inr (record {
+        record {
           items = items;
           wrote = wrote_on;
           end = end_of result items ends_on;
           leaves = λ s o losing. leaves_on s o losing (ok_more result (λ store. set_on store) store);
           stays = λ s o losing. so_on s o losing;
           causes = causes_of opens.cuts a a2 items result counted.no_flash counted.cut kept_on;
-        })
+          image = kept_on.image;
+        }
 
     pub back_if : OnOk result (IsStore card2.store) → OnOk result (IsBackOn p a q a2)
     back_if store = ok_more result (λ store. back_on store) store
+
+-- the line that the power is on broke off
+module _ {K : Type 0} (took : K → List ℕ → K → Type 0) (both : Joins took) (p p' : PathState) (a : ArrayState) (out : Outlasts p) where
+  module _ (old m1 m2 m3 new : K) (card1 : CardState) (a1 : ArrayState) (first : took old (items_text (Cut ∷ [])) m1) (lost : LostWritten took p.driver.requests.holders 0 m1 (Ok tt) m2)
+      (opens : OpensAgain took m2 p.card a (Ok tt) m3 card1 a1) (part : TakesPart took m3 (On ∷ []) new) where
+    part_on : TakesPart took old (Cut ∷ lines_on lost.ids opens.cuts []) new
+    part_on =
+        let cuts : took m2 (items_text (further_cuts opens.cuts)) m3 = subst (λ xs. took m2 (items_text xs) m3) opens.lines.0 opens.wrote in
+        part_behind took both old m1 new (Cut ∷ []) (lines_on lost.ids opens.cuts []) first
+        (part_behind took both m1 m2 new (lost_lines lost.ids) (further_cuts opens.cuts ++ On ∷ []) lost.wrote (part_behind took both m2 m3 new (further_cuts opens.cuts) (On ∷ []) cuts part))
+
+    module _ (s : State) (o : OrderState) (losing : IsLosing s p o a) where
+      told_then : Shows a
+      told_then = shows_of a losing.told
+
+      leads_on : Leads p a lost.ids opens.cuts told_then.after
+      leads_on = record { lost = lost.are; few = opens.lines.1; shows = told_then.shown }
+
+      dark_on : StaysDark s (lines_on lost.ids opens.cuts []) a1
+      dark_on = leaves_taken s o p p' a a1 out losing opens.kept.shown lost.ids opens.cuts told_then.after leads_on [] (0, omega arith, refl)
+
+      stays_on : StaysSo (effect s Cut) (lines_on lost.ids opens.cuts [])
+      stays_on = so_taken s o p p' a a1 out losing opens.kept.shown lost.ids opens.cuts told_then.after leads_on [] (0, omega arith, refl)
+
+    pub unlit_loses : Loses took p a old (Err SinkFailed) p' a1 new
+    unlit_loses =
+        let counted = counted_behind opens.cuts lost.ids (further_cuts opens.cuts ++ On ∷ []) (counted_left opens.cuts [] (record { no_flash = refl; no_cut = refl })) in
+        record {
+          items = lines_on lost.ids opens.cuts [];
+          wrote = part_on;
+          end = tt;
+          leaves = λ s o losing. dark_on s o losing;
+          stays = λ s o losing. stays_on s o losing;
+          causes = causes_of opens.cuts a a1 (lines_on lost.ids opens.cuts []) (Err SinkFailed) counted.no_flash counted.cut opens.kept;
+          image = opens.kept.image;
+        }
 
 -- the same of the path that was set up anew before the openings
 module _ {K : Type 0} (took : K → List ℕ → K → Type 0) (both : Joins took) (p : PathState) (a : ArrayState) (out : Outlasts p) (pending : List ℕ) (noted : AreNoted pending p.card) (begun : PathState) (is : begun ≡ set_anew p p.card p.script) where

@@ -45,6 +45,7 @@ pub kept_none : (a : ArrayState) → IsKept 0 0 a a
 kept_none a = record {
   shown = refl;
   tells = refl;
+  image = λ is. is;
   later_faults = later_same a.faults;
   later_cuts = later_same a.cuts;
   cut = rose_none a.cuts a.cuts (later_same a.cuts);
@@ -73,7 +74,8 @@ pub counted_cuts : (cuts : ℕ) → AreCounted cuts (further_cuts cuts)
 counted_cuts cuts = record { no_flash = cuts_flash cuts; cut = cuts_counted cuts }
 
 counted_by : (cuts : ℕ) (halt : Halt) (items : List Item) → IsReopening cuts (Err halt) items → AreCounted cuts items
-counted_by cuts SinkFailed items lines = subst (AreCounted cuts) (sym lines.0) (counted_cuts cuts)
+counted_by cuts SinkFailed items (inl lines) = subst (AreCounted cuts) (sym lines.0) (counted_cuts cuts)
+counted_by cuts SinkFailed items (inr lines) = counted_ends cuts lines.0 items lines.1
 counted_by cuts OpenFault items lines = counted_ends cuts Fault items lines
 counted_by cuts PowerGone items lines = counted_ends cuts Dead items lines
 counted_by cuts BadImage items lines = counted_ends cuts Image items lines
@@ -100,7 +102,8 @@ pub stays_only_cuts : (t : State) (cuts : ℕ) → StaysSo t (further_cuts cuts)
 stays_only_cuts t cuts = subst (StaysSo t) (append-nil (further_cuts cuts)) (stays_cuts t cuts [] (λ u. tt))
 
 stays_by : (t : State) (cuts : ℕ) (halt : Halt) (items : List Item) → IsReopening cuts (Err halt) items → StaysSo t items
-stays_by t cuts SinkFailed items lines = subst (StaysSo t) (sym lines.0) (stays_only_cuts t cuts)
+stays_by t cuts SinkFailed items (inl lines) = subst (StaysSo t) (sym lines.0) (stays_only_cuts t cuts)
+stays_by t cuts SinkFailed items (inr lines) = stays_ends t cuts lines.0 items lines.1
 stays_by t cuts OpenFault items lines = stays_ends t cuts Fault items lines
 stays_by t cuts PowerGone items lines = stays_ends t cuts Dead items lines
 stays_by t cuts BadImage items lines = stays_ends t cuts Image items lines
@@ -124,27 +127,37 @@ module _ (p : PathState) (a : ArrayState) (out : Outlasts p) where
   dark_closed s o a' ids cuts end items some ends = subst (λ more. StaysDark s (lost_lines ids ++ more) a') (sym ends.0) ((ends_dark s p o a a').closed ids cuts end some ends.1)
 
   dark_by : (s : State) (o : OrderState) (a' : ArrayState) (ids : List ℕ) (cuts : ℕ) (halt : Halt) (items : List Item) → LosesSome s p o a a' true ids → IsReopening cuts (Err halt) items → StaysDark s (lost_lines ids ++ items) a'
-  dark_by s o a' ids cuts SinkFailed items some lines = subst (λ more. StaysDark s (lost_lines ids ++ more) a') (sym lines.0) ((ends_dark s p o a a').cuts ids cuts some lines.1)
+  dark_by s o a' ids cuts SinkFailed items some (inl lines) = subst (λ more. StaysDark s (lost_lines ids ++ more) a') (sym lines.0) ((ends_dark s p o a a').cuts ids cuts some lines.1)
+  dark_by s o a' ids cuts SinkFailed items some (inr lines) = dark_closed s o a' ids cuts lines.0 items some lines.1
   dark_by s o a' ids cuts OpenFault items some lines = dark_closed s o a' ids cuts Fault items some lines
   dark_by s o a' ids cuts PowerGone items some lines = dark_closed s o a' ids cuts Dead items some lines
   dark_by s o a' ids cuts BadImage items some lines = dark_closed s o a' ids cuts Image items some lines
 
 -- the cut's own line broke off
-pub broke_at_once : {K : Type 0} (took : K → List ℕ → K → Type 0) (p p' : PathState) (a : ArrayState) (old new : K) (halt : Halt) → Takes took old (Cut ∷ []) (Err halt) new → halt ≡ SinkFailed → Loses took p a old (Err halt) p' a new
-broke_at_once took p p' a old new halt line is = subst (λ h. Takes took old (Cut ∷ []) (Err h) new → Loses took p a old (Err h) p' a new) (sym is)
-    (λ part. inl (record { failed = refl; part = part_of_one took old new Cut part; same = refl })) line
+pub broke_at_once : {K : Type 0} (took : K → List ℕ → K → Type 0) (p p' : PathState) (a : ArrayState) (out : Outlasts p) (old new : K) (halt : Halt) → Takes took old (Cut ∷ []) (Err halt) new → halt ≡ SinkFailed → Loses took p a old (Err halt) p' a new
+broke_at_once took p p' a out old new halt line is = subst (λ h. Takes took old (Cut ∷ []) (Err h) new → Loses took p a old (Err h) p' a new) (sym is)
+    (λ part. record {
+      items = [];
+      wrote = part_of_one took old new Cut part;
+      end = tt;
+      leaves = λ s o losing. (ends_dark s p o a a).losing false [] (some_lost p a out s o a false [] losing refl (λ all. absurd (cc)));
+      stays = λ s o losing. tt;
+      causes = causes_of 0 a a [] (Err SinkFailed) refl refl (kept_none a);
+      image = λ is. is;
+    }) line
 
 module _ {K : Type 0} (took : K → List ℕ → K → Type 0) (both : Joins took) (p p' : PathState) (a : ArrayState) (out : Outlasts p) (old m1 : K) (first : took old (items_text (Cut ∷ [])) m1) where
   -- the line of a lost request did
   lost_at : (new : K) → LostWritten took p.driver.requests.holders 0 m1 (Err SinkFailed) new → Loses took p a old (Err SinkFailed) p' a new
-  lost_at new lost = inr (record {
+  lost_at new lost = record {
     items = lost_lines lost.ids;
     wrote = part_behind took both old m1 new (Cut ∷ []) (lost_lines lost.ids) first lost.wrote;
     end = tt;
     leaves = λ s o losing. (ends_dark s p o a a).losing false lost.ids (some_lost p a out s o a false lost.ids losing refl lost.are);
     stays = λ s o losing. subst (StaysSo (effect s Cut)) (append-nil (lost_lines lost.ids)) (stays_lost (effect s Cut) lost.ids [] (λ u. tt));
     causes = let plain = plain_lost lost.ids in causes_of 0 a a (lost_lines lost.ids) (Err SinkFailed) plain.no_flash plain.no_cut (kept_none a);
-  })
+    image = λ is. is;
+  }
 
   pub lost_dark : (new : K) (halt : Halt) → LostWritten took p.driver.requests.holders 0 m1 (Err halt) new → halt ≡ SinkFailed → Loses took p a old (Err halt) p' a new
   lost_dark new halt lost is = subst (λ h. LostWritten took p.driver.requests.holders 0 m1 (Err h) new → Loses took p a old (Err h) p' a new) (sym is) (λ broke. lost_at new broke) lost
@@ -155,11 +168,12 @@ module _ {K : Type 0} (took : K → List ℕ → K → Type 0) (both : Joins too
     opens_dark new halt opens =
         let items = lost_lines lost.ids ++ opens.items in
         let counted = counted_behind opens.cuts lost.ids opens.items (counted_by opens.cuts halt opens.items opens.lines) in
-        inr (record {
+        record {
           items = items;
           wrote = wrote_behind took both old m1 new (Cut ∷ []) items (Err halt) first (wrote_behind took both m1 m2 new (lost_lines lost.ids) opens.items (Err halt) lost.wrote opens.wrote);
           end = has_end (lost_lines lost.ids) opens.cuts halt opens.items opens.lines;
           leaves = λ s o losing. dark_by p a out s o a' lost.ids opens.cuts halt opens.items (some_lost p a out s o a' true lost.ids losing opens.kept.shown lost.are) opens.lines;
           stays = λ s o losing. stays_lost (effect s Cut) lost.ids opens.items (λ t. stays_by t opens.cuts halt opens.items opens.lines);
           causes = causes_of opens.cuts a a' items (Err halt) counted.no_flash counted.cut opens.kept;
-        })
+          image = opens.kept.image;
+        }

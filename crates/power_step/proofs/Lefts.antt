@@ -1,5 +1,5 @@
 -- What is left of the sectors, one after the other.
-use Rattle.std.proofs.Common.{◌≡◌, ◌∙◌, ◌++◌, ◌∷◌, ◌<◌, ℕ, suc, List, [], Result, Ok, Err, length, ap, refl, sym, arith}
+use Rattle.std.proofs.Common.{◌≡◌, ◌∙◌, ◌++◌, ◌∷◌, ◌<◌, inl, inr, ℕ, suc, List, [], Result, Ok, Err, length, ap, refl, sym, arith}
 use Rattle.std.proofs.lemmas.List.{append_assoc}
 use Rattle.std.proofs.lemmas.List.Elements.{All-head, All-tail}
 use Rattle.io_edge.specs.Sink.{Joins}
@@ -14,7 +14,7 @@ use Rattle.intent_store.specs.Intent.{shown_by}
 use Rattle.card_store.specs.Store.{IsOpen}
 use Rattle.card_core.specs.Card.{CardState}
 use Rattle.left_laws.specs.Lines.{left_line}
-use Rattle.power_step.specs.Cut.{EndsLeft, IsRead, LeftWritten, SectorWritten, ShowsFirst, ShowsSector}
+use Rattle.power_step.specs.Cut.{EndsLeft, EndsUnread, IsRead, LeftWritten, SectorWritten, ShowsFirst, ShowsSector}
 use Rattle.power_step.proofs.Counting.{later_both, later_same, plain_join, rose_before}
 use Rattle.power_step.proofs.Taking.{wrote_behind}
 
@@ -56,21 +56,26 @@ ends_behind (Err PowerGone) front items ends = ends
 ends_behind (Err BadImage) front items ends = ends
 
 -- a sector that was shown, and those behind it
+unread_more : (sector : ℕ) (rest : List ℕ) (after : List Block) (front items : List Item) → front ≡ left_line after sector ∷ [] → EndsUnread rest after items → EndsUnread (sector ∷ rest) after (front ++ items)
+unread_more sector rest after front items is shows =
+    let few = shows.1 in
+    (suc shows.0, omega (arith, few), ap (λ lines. lines ++ items) is ∙ ap (λ lines. left_line after sector ∷ lines) shows.2)
+
 shows_more : (sector : ℕ) (rest : List ℕ) (after : List Block) (result : Result (Unit {0}) Halt) (front items : List Item) → front ≡ left_line after sector ∷ [] → ShowsFirst rest after result items
     → ShowsFirst (sector ∷ rest) after result (front ++ items)
 shows_more sector rest after (Ok done) front items is shows = ap (λ lines. lines ++ items) is ∙ ap (λ lines. left_line after sector ∷ lines) shows
-shows_more sector rest after (Err SinkFailed) front items is shows =
+shows_more sector rest after (Err SinkFailed) front items is (inl shows) =
     let few = shows.1 in
-    (suc shows.0, omega (arith, few), ap (λ lines. lines ++ items) is ∙ ap (λ lines. left_line after sector ∷ lines) shows.2)
-shows_more sector rest after (Err OpenFault) front items is shows =
-    let few = shows.1 in
-    (suc shows.0, omega (arith, few), ap (λ lines. lines ++ items) is ∙ ap (λ lines. left_line after sector ∷ lines) shows.2)
+    inl (suc shows.0, omega (arith, few), ap (λ lines. lines ++ items) is ∙ ap (λ lines. left_line after sector ∷ lines) shows.2)
+shows_more sector rest after (Err SinkFailed) front items is (inr shows) = inr (unread_more sector rest after front items is shows)
+shows_more sector rest after (Err OpenFault) front items is shows = unread_more sector rest after front items is shows
 shows_more sector rest after (Err PowerGone) front items is shows = shows
 shows_more sector rest after (Err BadImage) front items is shows = shows
 
 -- one that wasn't
 shows_none : (sector : ℕ) (rest : List ℕ) (after : List Block) (halt : Halt) (items : List Item) → ShowsSector sector after (Err halt) items → ShowsFirst (sector ∷ rest) after (Err halt) items
-shows_none sector rest after SinkFailed items is = (0, omega arith, is)
+shows_none sector rest after SinkFailed items (inl is) = inl (1, omega arith, is)
+shows_none sector rest after SinkFailed items (inr is) = inr (0, omega arith, is)
 shows_none sector rest after OpenFault items is = (0, omega arith, is)
 shows_none sector rest after PowerGone items none = none
 shows_none sector rest after BadImage items none = none

@@ -11,3 +11,4 @@ pub mod Backs
 pub mod Noting
 pub mod Returning
 pub mod Phases
+pub mod Images

@@ -21,10 +21,10 @@ module _ {K : Type 0} (took : K → List ℕ → K → Type 0) (both : Joins too
   }
 
 -- the line of one of them broke off
-pub lost_broken : {K : Type 0} (took : K → List ℕ → K → Type 0) (holders : List (Option ℕ)) (last id : ℕ) (old new : K) (halt : Halt) → Takes took old (Lost id ∷ []) (Err halt) new → halt ≡ SinkFailed
+pub lost_broken : {K : Type 0} (took : K → List ℕ → K → Type 0) (holders : List (Option ℕ)) (last id : ℕ) (old new : K) (halt : Halt) → next_lost last holders ≡ Some id → Takes took old (Lost id ∷ []) (Err halt) new → halt ≡ SinkFailed
     → LostWritten took holders last old (Err halt) new
-lost_broken took holders last id old new halt line is = subst (λ h. Takes took old (Lost id ∷ []) (Err h) new → LostWritten took holders last old (Err h) new) (sym is)
-    (λ part. record { ids = []; are = λ ok. absurd (cc); wrote = part_of_one took old new (Lost id) part }) line
+lost_broken took holders last id old new halt next line is = subst (λ h. Takes took old (Lost id ∷ []) (Err h) new → LostWritten took holders last old (Err h) new) (sym is)
+    (λ part. record { ids = id ∷ []; are = (next, λ ok. absurd (cc)); wrote = part_of_one took old new (Lost id) part }) line
 
 -- all tags were looked at
 pub all_looked : (last tag : ℕ) (holders : List (Option ℕ)) (next : Option ℕ) → next ≡ fold lower None (map (above last) (take tag holders)) → length holders ≤ tag → next ≡ next_lost last holders

@@ -1,5 +1,5 @@
 -- What is left of one sector.
-use Rattle.std.proofs.Common.{◌≡◌, ◌∙◌, ◌∷◌, ◌<◌, ◌≤◌, ℕ, true, IfErr, IfSome, List, [], Some, Result, Ok, Err, length, ap, refl, sym, subst, arith}
+use Rattle.std.proofs.Common.{◌≡◌, ◌∙◌, ◌∷◌, ◌<◌, ◌≤◌, inl, ℕ, true, IfErr, IfSome, List, [], Some, Result, Ok, Err, length, ap, refl, sym, subst, arith}
 use Rattle.storage_model.specs.Contents.{contents_now, sector_at}
 use Rattle.storage_model.specs.Count.{Later, Rose}
 use Rattle.storage_model.specs.declared.block.Block.{Block}
@@ -17,7 +17,7 @@ use Rattle.card_core.specs.Card.{CardState}
 use Rattle.left_laws.specs.Lines.{left_line}
 use Rattle.trace_print.specs.Prints.{Takes}
 use Rattle.trace_text.specs.Trace.{items_text}
-use Rattle.power_step.specs.Cut.{IsRead, SectorWritten}
+use Rattle.power_step.specs.Cut.{ArePlain, IsRead, SectorWritten, ShowsSector}
 use Rattle.power_step.proofs.Counting.{fault_once, later_same, rose_none}
 use Rattle.power_step.proofs.Lefts.{read_none}
 use Rattle.power_step.proofs.Taking.{part_of_one}
@@ -76,14 +76,21 @@ module _ {K : Type 0} (took : K → List ℕ → K → Type 0) (sector : ℕ) (c
       failed = rose_none a.faults a'.faults read.faults;
     }
 
+    -- what a line shows that broke off
+    abbrev ShowsWhat : Item → Type 0
+    ShowsWhat item = (after : List Block) → shown_by a ≡ Some after → Stands (record { base = after; pend = [] }) card.store a → sector < length after → ShowsSector sector after (Err SinkFailed) (item ∷ [])
+
+    abbrev IsPlainLine : Item → Type 0
+    IsPlainLine item = ArePlain (item ∷ [])
+
     -- the line broke off
-    pub sector_broken : (halt : Halt) (item : Item) → Takes took old (item ∷ []) (Err halt) new → halt ≡ SinkFailed → SectorWritten took sector old card a (Err halt) new card' a'
-    sector_broken halt item line is = subst (λ h. Takes took old (item ∷ []) (Err h) new → SectorWritten took sector old card a (Err h) new card' a') (sym is) (λ part. record {
-      items = [];
+    pub sector_broken : (halt : Halt) (item : Item) → IsPlainLine item → ShowsWhat item → Takes took old (item ∷ []) (Err halt) new → halt ≡ SinkFailed → SectorWritten took sector old card a (Err halt) new card' a'
+    sector_broken halt item quiet shows line is = subst (λ h. Takes took old (item ∷ []) (Err h) new → SectorWritten took sector old card a (Err h) new card' a') (sym is) (λ part. record {
+      items = item ∷ [];
       wrote = part_of_one took old new item part;
-      shows = λ after shown stands below. refl;
+      shows = shows;
       ends = tt;
-      plain = record { no_flash = refl; no_cut = refl };
+      plain = quiet;
       read = read;
       failed = rose_none a.faults a'.faults read.faults;
     }) line
@@ -103,4 +110,4 @@ module _ {K : Type 0} (took : K → List ℕ → K → Type 0) (sector : ℕ) (c
     -- it was read, and however its line went
     pub sector_printed : (result : Result (Unit {0}) Halt) → Reads card.store a sector value → Takes took old (Left sector value ∷ []) result new → IfErr result (λ halt. halt ≡ SinkFailed) → SectorWritten took sector old card a result new card' a'
     sector_printed (Ok done) reads takes is = sector_shown reads takes
-    sector_printed (Err halt) reads takes is = sector_broken halt (Left sector value) takes is
+    sector_printed (Err halt) reads takes is = sector_broken halt (Left sector value) (record { no_flash = refl; no_cut = refl }) (λ after shown stands below. inl (shows_value reads after shown stands)) takes is

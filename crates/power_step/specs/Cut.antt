@@ -9,7 +9,7 @@ use Rattle.storage_model.specs.declared.trace.End.TheVariants.{Fault, Dead, Imag
 use Rattle.storage_model.specs.declared.trace.Item.{Item}
 use Rattle.storage_model.specs.declared.trace.Item.TheVariants.{Cut, Off, On}
 use Rattle.array_edge.specs.Array.{ArrayState}
-use Rattle.intent_store.specs.Intent.{shown_by}
+use Rattle.intent_store.specs.Intent.{ShowsImage, shown_by}
 use Rattle.intent_store.specs.declared.ends.StartEnd.{StartEnd}
 use Rattle.intent_store.specs.declared.ends.StartEnd.TheVariants.{Flash, PowerLost, BadImage}
 use Rattle.card_store.specs.Store.{IsOpen, IsSameStore, IsStore, Stands}
@@ -19,7 +19,7 @@ use Rattle.cut_laws.specs.Lost.{AreLost, lost_lines}
 use Rattle.left_laws.specs.Lines.{left_line}
 use Rattle.trace_print.specs.Prints.{RoseBy, halt_faults, is_cut_line, is_flash}
 use Rattle.trace_text.specs.Trace.{items_text}
-use Rattle.power_step.specs.Wrote.{Wrote}
+use Rattle.power_step.specs.Wrote.{TakesPart, Wrote}
 
 -- the issued requests above the last are lost, by number
 pub record LostWritten {K : Type 0} (took : K → List ℕ → K → Type 0) (holders : List (Option ℕ)) (last : ℕ) (old : K) (result : Result (Unit {0}) Halt) (new : K) : Type 0 where
@@ -46,10 +46,10 @@ HaltsFor why (Err halt) = (halt ≡ SinkFailed) ⊎ (halt ≡ halt_for why)
 abbrev pub EndsWith : ℕ → End → List Item → Type 0
 EndsWith cuts end items = (items ≡ further_cuts cuts ++ Off end ∷ []) × (may_end cuts end ≡ true)
 
--- so many openings were cut, and the last one wasn't; or there is an end line
+-- So many openings were cut, and the last one wasn't; or there is an end line. Where the sink failed the last line is that of a cut or an end.
 abbrev pub IsReopening : ℕ → Result (Unit {0}) Halt → List Item → Type 0
 IsReopening cuts (Ok done) items = (items ≡ further_cuts cuts) × (cuts ≤ 7)
-IsReopening cuts (Err SinkFailed) items = (items ≡ further_cuts cuts) × (cuts ≤ 8)
+IsReopening cuts (Err SinkFailed) items = ((items ≡ further_cuts cuts) × (cuts ≤ 8)) ⊎ ((end : End) × EndsWith cuts end items)
 IsReopening cuts (Err OpenFault) items = EndsWith cuts Fault items
 IsReopening cuts (Err PowerGone) items = EndsWith cuts Dead items
 IsReopening cuts (Err BadPages) items = EndsWith cuts Image items
@@ -75,6 +75,7 @@ pub record IsLike (old new : CardState) : Type 0 where
 pub record IsKept (cuts faults : ℕ) (a a' : ArrayState) : Type 0 where
   pub shown : shown_by a' ≡ shown_by a
   pub tells : is_some a'.told ≡ is_some a.told
+  pub image : ShowsImage a → ShowsImage a'
   pub later_faults : Later a.faults a'.faults
   pub later_cuts : Later a.cuts a'.cuts
   pub cut : RoseBy cuts a.cuts a'.cuts
@@ -102,7 +103,7 @@ pub record IsRead (card : CardState) (a : ArrayState) (card' : CardState) (a' : 
 -- what a sector shows, or the end in place of its line
 abbrev pub ShowsSector : ℕ → List Block → Result (Unit {0}) Halt → List Item → Type 0
 ShowsSector sector after (Ok done) items = items ≡ left_line after sector ∷ []
-ShowsSector sector after (Err SinkFailed) items = items ≡ []
+ShowsSector sector after (Err SinkFailed) items = (items ≡ left_line after sector ∷ []) ⊎ (items ≡ Off Fault ∷ [])
 ShowsSector sector after (Err OpenFault) items = items ≡ Off Fault ∷ []
 ShowsSector sector after (Err halt) items = ⊥
 
@@ -128,11 +129,19 @@ pub record SectorWritten {K : Type 0} (took : K → List ℕ → K → Type 0) (
   pub read : IsRead card a card' a'
   pub failed : RoseBy (halt_faults result) a.faults a'.faults
 
--- the sectors were shown as these contents have them, or the first of them; or the end stands in place of a line
+-- the first sectors were shown as these contents have them
+abbrev pub ShowsTaken : List ℕ → List Block → List Item → Type 0
+ShowsTaken sectors after items = (k : ℕ) × (k ≤ length sectors) × (items ≡ map (left_line after) (take k sectors))
+
+-- and the end stands in place of the next one's line
+abbrev pub EndsUnread : List ℕ → List Block → List Item → Type 0
+EndsUnread sectors after items = (k : ℕ) × (k < length sectors) × (items ≡ map (left_line after) (take k sectors) ++ Off Fault ∷ [])
+
+-- all were shown, or one couldn't be read; the sink fails in one of these lines
 abbrev pub ShowsFirst : List ℕ → List Block → Result (Unit {0}) Halt → List Item → Type 0
 ShowsFirst sectors after (Ok done) items = items ≡ map (left_line after) sectors
-ShowsFirst sectors after (Err SinkFailed) items = (k : ℕ) × (k ≤ length sectors) × (items ≡ map (left_line after) (take k sectors))
-ShowsFirst sectors after (Err OpenFault) items = (k : ℕ) × (k < length sectors) × (items ≡ map (left_line after) (take k sectors) ++ Off Fault ∷ [])
+ShowsFirst sectors after (Err SinkFailed) items = ShowsTaken sectors after items ⊎ EndsUnread sectors after items
+ShowsFirst sectors after (Err OpenFault) items = EndsUnread sectors after items
 ShowsFirst sectors after (Err halt) items = ⊥
 
 abbrev pub ShowsSectors : List ℕ → CardState → ArrayState → Result (Unit {0}) Halt → List Item → Type 0
@@ -149,13 +158,20 @@ pub record LeftWritten {K : Type 0} (took : K → List ℕ → K → Type 0) (pe
   pub read : IsRead card a card' a'
   pub failed : RoseBy (halt_faults result) a.faults a'.faults
 
--- no opening went well, or the line that the power is on broke off
+-- no opening went well, or the sink failed in one of their lines
 pub record StaysOff {K : Type 0} (took : K → List ℕ → K → Type 0) (old : K) (card : CardState) (a : ArrayState) (result : Result (Unit {0}) Halt) (new : K) (card' : CardState) (a' : ArrayState) : Type 0 where
   pub halt : Halt
   pub failed : result ≡ Err halt
   pub opens : OpensAgain took old card a (Err halt) new card' a'
 
--- one did, that line came, and what is left was shown
+-- one did, and the line that the power is on broke off
+pub record BreaksOn {K : Type 0} (took : K → List ℕ → K → Type 0) (old : K) (card : CardState) (a : ArrayState) (result : Result (Unit {0}) Halt) (new : K) (card' : CardState) (a' : ArrayState) : Type 0 where
+  pub failed : result ≡ Err SinkFailed
+  pub reopened : K
+  pub opens : OpensAgain took old card a (Ok tt) reopened card' a'
+  pub part : TakesPart took reopened (On ∷ []) new
+
+-- that line came, and what is left was shown
 pub record ComesOn {K : Type 0} (took : K → List ℕ → K → Type 0) (pending : List ℕ) (old : K) (card : CardState) (a : ArrayState) (result : Result (Unit {0}) Halt) (new : K) (card' : CardState) (a' : ArrayState) : Type 0 where
   pub reopened : K
   pub lit : K
@@ -168,4 +184,5 @@ pub record ComesOn {K : Type 0} (took : K → List ℕ → K → Type 0) (pendin
 
 -- the openings behind the lines of lost requests, and what comes of them
 abbrev pub PowerReturns : {K : Type 0} → (K → List ℕ → K → Type 0) → List ℕ → K → CardState → ArrayState → Result (Unit {0}) Halt → K → CardState → ArrayState → Type 0
-PowerReturns took pending old card a result new card' a' = StaysOff took old card a result new card' a' ⊎ ComesOn took pending old card a result new card' a'
+PowerReturns took pending old card a result new card' a' =
+    StaysOff took old card a result new card' a' ⊎ (BreaksOn took old card a result new card' a' ⊎ ComesOn took pending old card a result new card' a')

@@ -1,5 +1,5 @@
 -- What a loss of power makes of the path, and the lines that it prints.
-use Rattle.std.specs.Prelude.{◌≡◌, ◌⊎◌, ◌++◌, ◌∷◌, ℕ, List, [], Result, Ok, Err}
+use Rattle.std.specs.Prelude.{◌≡◌, ◌++◌, ◌∷◌, ℕ, List, [], Result, Ok, Err}
 use Rattle.storage_machine.specs.declared.state.State.{State}
 use Rattle.storage_model.specs.declared.ends.Halt.{Halt}
 use Rattle.storage_model.specs.declared.ends.Halt.TheVariants.{SinkFailed, OpenFault, PowerGone, BadImage}
@@ -13,7 +13,8 @@ use Rattle.trace_print.specs.Prints.{HasCauses}
 use Rattle.array_edge.specs.Array.{ArrayState}
 use Rattle.cut_order.specs.Order.{OrderState}
 use Rattle.fall_laws.specs.Falls.{IsAnew}
-use Rattle.power_step.specs.Wrote.{TakesPart, Wrote}
+use Rattle.intent_store.specs.Intent.{ShowsImage}
+use Rattle.power_step.specs.Wrote.{Wrote}
 use Rattle.world_state.specs.Path.{PathState, plan_of}
 use Rattle.world_state.specs.Ties.{IsReady}
 use Rattle.world_state.specs.Told.{ComesBack, IsLosing, StaysDark}
@@ -35,23 +36,15 @@ HasEnd items (Err OpenFault) = EndsBy Fault items
 HasEnd items (Err PowerGone) = EndsBy Dead items
 HasEnd items (Err BadImage) = EndsBy Image items
 
--- the cut and the lines behind it
-pub record LosesPower {K : Type 0} (took : K → List ℕ → K → Type 0) (p : PathState) (a : ArrayState) (old : K) (result : Result (Unit {0}) Halt) (p' : PathState) (a' : ArrayState) (new : K) : Type 0 where
+-- the cut and the lines behind it; the sink may fail in the cut's own line; what was an image is one
+pub record Loses {K : Type 0} (took : K → List ℕ → K → Type 0) (p : PathState) (a : ArrayState) (old : K) (result : Result (Unit {0}) Halt) (p' : PathState) (a' : ArrayState) (new : K) : Type 0 where
   pub items : List Item
   pub wrote : Wrote took old (Cut ∷ items) result new
   pub end : HasEnd items result
   pub leaves : (s : State) (o : OrderState) → IsLosing s p o a → Leaves s items result p' a'
   pub stays : (s : State) (o : OrderState) → IsLosing s p o a → StaysSo (effect s Cut) items
   pub causes : HasCauses 1 a a' (Cut ∷ items) result
-
--- the sink failed within the line of the cut
-pub record BreaksAtOnce {K : Type 0} (took : K → List ℕ → K → Type 0) (a : ArrayState) (old : K) (result : Result (Unit {0}) Halt) (a' : ArrayState) (new : K) : Type 0 where
-  pub failed : result ≡ Err SinkFailed
-  pub part : TakesPart took old [] new
-  pub same : a' ≡ a
-
-abbrev pub Loses : {K : Type 0} → (K → List ℕ → K → Type 0) → PathState → ArrayState → K → Result (Unit {0}) Halt → PathState → ArrayState → K → Type 0
-Loses took p a old result p' a' new = BreaksAtOnce took a old result a' new ⊎ LosesPower took p a old result p' a' new
+  pub image : ShowsImage a → ShowsImage a'
 
 -- where the power is on again, the path is ready and anew, whatever the array tells
 pub record IsBackOn (p : PathState) (a : ArrayState) (p' : PathState) (a' : ArrayState) : Type 0 where

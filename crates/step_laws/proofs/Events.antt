@@ -30,6 +30,7 @@ use Rattle.world_state.specs.Steps.{EngineStep, HostStep, is_of_phase}
 use Rattle.world_state.specs.Told.{Told}
 use Rattle.world_steps.specs.Reading.{PhasesYield, Reads, StaysPrompt}
 use Rattle.world_steps.specs.World.{IsPrompt, WorldState, chosen_of, order_behind, order_in}
+use Rattle.power_step.proofs.Images.{open_image}
 use Rattle.step_laws.proofs.Acting.{Acting, stepped}
 use Rattle.step_laws.proofs.Back.{anew_behind, darkened_taken, prompt_anew, script_same}
 use Rattle.step_laws.proofs.Orders.{order_used, to_do_in}
@@ -92,6 +93,7 @@ module _ (l : AreLaws) (w : WorldState) (a : ArrayState) (may : MaySteps w a) wh
       dark = λ dark c agrees. absurd (true≢false (sym dark));
       used = λ c agrees d. order_used l.events.line l.events.read w a c agrees HostActs (host_lines w.path p' act) p' a' d;
       near = l.lines.host_near l.events.states l.events.hosts w.path a p' a' act event may.ready.tied;
+      image = open_image p'.card.store a' event.fits;
       front = fronts a' 0 (host_lines w.path p' act) host_explained.0;
       all = λ lit. host_explained.0;
       cut = λ dark b more result causes. absurd (true≢false (sym dark));
@@ -133,6 +135,7 @@ module _ (l : AreLaws) (w : WorldState) (a : ArrayState) (may : MaySteps w a) wh
       dark = λ dark c agrees. engine_step.darkens l.events.states dark (order_in w EngineActs) c agrees;
       used = λ c agrees d. order_used l.events.line l.events.read w a c agrees EngineActs (engine_lines w.path p1 did phase) p1 a1 d;
       near = l.lines.engine_near l.events.states l.events.commands l.events.phases w.path a p1 a1 did phase event may.ready.tied;
+      image = open_image p1.card.store a1 event.fits;
       front = engine_front (is_dark did) (engine_explained (is_dark did) refl);
       all = λ lit. (engine_explained false lit).0;
       cut = λ dark b more result causes. l.causes.joined.cut a a1 b (engine_lines w.path p1 did phase) more result (engine_explained true dark) causes;
@@ -203,6 +206,7 @@ module _ (l : AreLaws) (w : WorldState) (a : ArrayState) (may : MaySteps w a) wh
           (darkened_taken CardActs (within w c CardActs) (card_lines w.path end) p1 (order_in w CardActs) a1 (card_step.darkens dark (order_in w CardActs) c agrees));
       used = λ c agrees d. order_used l.events.line l.events.read w a c agrees CardActs (card_lines w.path end) (left_by (is_lost end) p1) a1 d;
       near = l.lines.card_near l.events.states w.path a p1 a1 end event;
+      image = open_image p1.card.store a1 event.stored.fits;
       front = card_front (is_lost end) (card_explained (is_lost end) refl);
       all = λ lit. (card_explained false lit).0;
       cut = λ dark b more result causes. l.causes.joined.cut a a1 b (card_lines w.path end) more result (card_explained true dark) causes;
@@ -243,6 +247,7 @@ module _ (l : AreLaws) (w : WorldState) (a : ArrayState) (may : MaySteps w a) wh
         (l.events.powers w.path a (order_in w PowerActs) c agrees (to_do_in l.events.line l.events.read w a c agrees PowerActs may.some));
     used = λ c agrees d. order_used l.events.line l.events.read w a c agrees PowerActs (phase_cut w.path) (taken_from w.path) a d;
     near = l.lines.power_near l.events.states w.path a;
+    image = open_image w.path.card.store a may.ready.is_open;
     front = fronts a 1 (phase_cut w.path) (l.causes.joined.allowed a a 1 (phase_cut w.path) (Ok tt) (cut_caused a w.path));
     all = λ lit. absurd (true≢false lit);
     cut = λ dark b more result causes. l.causes.joined.power a a b (phase_cut w.path) more result (cut_caused a w.path) causes;
@@ -267,13 +272,13 @@ module _ {K : Type 0} (took : K → List ℕ → K → Type 0) (w : WorldState) 
 module _ {K : Type 0} (took : K → List ℕ → K → Type 0) (both : Joins took) (l : AreLaws) where
   pub host_steps : DoStep took (HostActed took) HostActs
   host_steps w a old mid result p' a' new may first acted = record {
-    steps = stepped took both l.lines l.causes.joined w a HostActs _ false p' a' (host_acting l w a may p' a' acted.act acted.event) old mid new result p' a' first acted.written;
+    steps = stepped took both l.events.states l.lines l.causes.joined w a HostActs _ false p' a' (host_acting l w a may p' a' acted.act acted.event) old mid new result p' a' first acted.written;
     goes_on = written_goes took w HostActs _ false p' a' mid result p' a' new (λ lit. host_goes l w a may p' a' acted.act acted.event) (λ dark. absurd (true≢false (sym dark))) acted.written;
   }
 
   pub engine_steps : DoStep took (EngineActed took) EngineActs
   engine_steps w a old mid result p' a' new may first acted = record {
-    steps = stepped took both l.lines l.causes.joined w a EngineActs _ (is_dark acted.did) acted.path acted.array (engine_acting l w a may acted.path acted.array acted.did acted.phase acted.event) old mid new result p' a' first acted.written;
+    steps = stepped took both l.events.states l.lines l.causes.joined w a EngineActs _ (is_dark acted.did) acted.path acted.array (engine_acting l w a may acted.path acted.array acted.did acted.phase acted.event) old mid new result p' a' first acted.written;
     goes_on = written_goes took w EngineActs _ (is_dark acted.did) acted.path acted.array mid result p' a' new
         (λ lit. engine_goes l w a may acted.path acted.array acted.did acted.phase acted.event lit)
         (λ dark q b back. engine_back l w a may acted.path acted.array acted.did acted.phase acted.event dark q b back) acted.written;
@@ -281,7 +286,7 @@ module _ {K : Type 0} (took : K → List ℕ → K → Type 0) (both : Joins too
 
   pub card_steps : DoStep took (CardActed took) CardActs
   card_steps w a old mid result p' a' new may first acted = record {
-    steps = stepped took both l.lines l.causes.joined w a CardActs _ (is_lost acted.end) (left_by (is_lost acted.end) acted.path) acted.array (card_acting l w a may acted.path acted.array acted.end acted.event) old mid new result p' a' first acted.written;
+    steps = stepped took both l.events.states l.lines l.causes.joined w a CardActs _ (is_lost acted.end) (left_by (is_lost acted.end) acted.path) acted.array (card_acting l w a may acted.path acted.array acted.end acted.event) old mid new result p' a' first acted.written;
     goes_on = written_goes took w CardActs _ (is_lost acted.end) (left_by (is_lost acted.end) acted.path) acted.array mid result p' a' new
         (λ lit. subst (λ q. GoesOn w CardActs (behind_step w CardActs q) acted.array) (sym (lit_left lit)) (card_goes l w a may acted.path acted.array acted.end acted.event lit))
         (λ dark q b back. card_back l w a may acted.path acted.array acted.end acted.event q b (subst (λ r. IsBackOn r acted.array q b) (dark_left dark) back)) acted.written;
@@ -295,6 +300,6 @@ module _ {K : Type 0} (took : K → List ℕ → K → Type 0) (both : Joins too
 
   pub power_steps : DoStep took (PowerActed took) PowerActs
   power_steps w a old mid result p' a' new may first acted = record {
-    steps = stepped took both l.lines l.causes.joined w a PowerActs _ true (taken_from w.path) a (power_acting l w a may) old mid new result p' a' first acted;
+    steps = stepped took both l.events.states l.lines l.causes.joined w a PowerActs _ true (taken_from w.path) a (power_acting l w a may) old mid new result p' a' first acted;
     goes_on = written_goes took w PowerActs _ true (taken_from w.path) a mid result p' a' new (λ lit. absurd (true≢false lit)) (λ dark q b back. power_back l w a may q b back) acted;
   }

@@ -28,16 +28,18 @@ shown_is w c actor items reads =
     ap (λ flag. if flag then Turn actor ∷ items else items) (reads.shown actor) ∙ shown_by_flag (shows_letter w actor) actor items
 
 module _ {K : Type 0} (took : K → List ℕ → K → Type 0) (both : Joins took) where
-  -- whole lines, and then whole ones with a part of one more
+  -- whole lines, and then lines of which the last was written in part
   pub part_behind : (old mid new : K) (first whole : List Item) → took old (items_text first) mid → TakesPart took mid whole new → TakesPart took old (first ++ whole) new
   part_behind old mid new first whole taken part = record {
+    whole = first ++ part.whole;
     item = part.item;
+    are = ap (λ xs. first ++ xs) part.are ∙ sym (append_assoc first part.whole (part.item ∷ []));
     count = part.count;
     part = part.part;
     taken = subst (λ text. took old text new)
-        (sym (ap (λ text. text ++ take part.count (item_text part.item)) (flat_map-append item_text first whole)
-        ∙ append_assoc (items_text first) (items_text whole) (take part.count (item_text part.item))))
-        (both.join old mid new (items_text first) (items_text whole ++ take part.count (item_text part.item)) taken part.taken);
+        (sym (ap (λ text. text ++ take part.count (item_text part.item)) (flat_map-append item_text first part.whole)
+        ∙ append_assoc (items_text first) (items_text part.whole) (take part.count (item_text part.item))))
+        (both.join old mid new (items_text first) (items_text part.whole ++ take part.count (item_text part.item)) taken part.taken);
   }
 
   pub wrote_behind : (old mid new : K) (first lines : List Item) (result : Result (Unit {0}) Halt) → took old (items_text first) mid → Wrote took mid lines result new
@@ -49,5 +51,5 @@ module _ {K : Type 0} (took : K → List ℕ → K → Type 0) (both : Joins too
   wrote_behind old mid new first lines (Ok done) taken wrote = taken_behind took both old mid new first lines taken wrote
 
 -- lines that broke off
-pub broken_part : {K : Type 0} (took : K → List ℕ → K → Type 0) (old new : K) (items : List Item) → (b : Breaks took old items new) → TakesPart took old b.whole new
-broken_part took old new items b = record { item = b.item; count = b.count; part = b.part; taken = b.taken }
+pub broken_part : {K : Type 0} (took : K → List ℕ → K → Type 0) (old new : K) (items : List Item) → (b : Breaks took old items new) → TakesPart took old (b.whole ++ b.item ∷ []) new
+broken_part took old new items b = record { whole = b.whole; item = b.item; are = refl; count = b.count; part = b.part; taken = b.taken }

@@ -7,10 +7,11 @@ use Rattle.storage_model.specs.declared.trace.End.{End}
 use Rattle.storage_model.specs.declared.trace.Item.{Item}
 use Rattle.trace_text.specs.Trace.{items_text}
 use Rattle.array_edge.specs.Array.{ArrayState}
+use Rattle.cut_order.specs.Order.{OrderState}
 use Rattle.cause_laws.specs.Causes.{AreExplained, AreJoined}
 use Rattle.cause_laws.specs.Falls.{DarkIsOfRequest, DoStepsFall, StopsByErrors}
 use Rattle.front_laws.specs.Fronts.{CardIsNear, EngineIsNear, HostIsNear, PowerIsNear}
-use Rattle.join_laws.specs.Fronts.{IsStoppedAtCut, IsStoppedBehind, IsStoppedDark, IsStoppedLit}
+use Rattle.join_laws.specs.Fronts.{IsStoppedAtCut, IsStoppedBehind, IsStoppedDark, IsStoppedLast, IsStoppedLit}
 use Rattle.join_laws.specs.Joins.{IsBackOn, IsEndedIn, IsLit}
 use Rattle.power_laws.specs.Power.{CardSteps, PowerSteps, UsesLine}
 use Rattle.world_state.specs.Laws.{StateLaws}
@@ -45,6 +46,7 @@ pub record AreLines : Type 0 where
       → IsEndedIn w c actor items p a first end a'
   pub stopped_lit : (w : WorldState) → (c : Context) → (actor : Letter) → (whole : List Item) → (item : Item) → (rest : List Item) → IsStoppedLit w c actor whole item rest
   pub stopped_dark : (w : WorldState) → (c : Context) → (actor : Letter) → (whole : List Item) → (item : Item) → (rest : List Item) → IsStoppedDark w c actor whole item rest
+  pub stopped_last : (w : WorldState) → (c : Context) → (actor : Letter) → (item : Item) → (others : List Item) → (p : PathState) → (o : OrderState) → (a : ArrayState) → IsStoppedLast w c actor item others p o a
   pub stopped_at_cut : (w : WorldState) → (c : Context) → (actor : Letter) → (items : List Item) → (p : PathState) → (a : ArrayState) → IsStoppedAtCut w c actor items p a
   pub stopped_behind : (w : WorldState) → (c : Context) → (actor : Letter) → (items : List Item) → (p : PathState) → (a : ArrayState) → (whole : List Item) → (a' : ArrayState)
       → IsStoppedBehind w c actor items p a whole a'

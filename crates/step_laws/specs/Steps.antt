@@ -1,13 +1,15 @@
--- What a step of a run promises: its lines, what they tell of each state that the run stood for, what has to have happened, and that the run goes on.
-use Rattle.std.specs.Prelude.{◌≡◌, ◌<◌, ◌∷◌, ℕ, if◌then◌else◌, List, [], OnOk, Result}
+-- What a step of a run promises: its lines, what they tell of each state that the run stood for, what has to have happened, that the pages are an image, and that the run goes on.
+use Rattle.std.specs.Prelude.{◌≡◌, ◌<◌, ◌∷◌, ℕ, if◌then◌else◌, List, [], OnOk, Result, Err, ◌≤◌, count_by}
 use Rattle.storage_machine.specs.declared.state.State.{State}
 use Rattle.storage_model.specs.declared.ends.Halt.{Halt}
+use Rattle.storage_model.specs.declared.ends.Halt.TheVariants.{PowerGone, BadImage}
 use Rattle.storage_model.specs.declared.faults.Letter.{Letter}
 use Rattle.storage_model.specs.declared.faults.Letter.TheVariants.{Cut as PowerActs}
 use Rattle.storage_model.specs.declared.trace.Item.{Item}
 use Rattle.storage_model.specs.declared.trace.Item.TheVariants.{Turn}
-use Rattle.trace_print.specs.Prints.{HasCauses}
+use Rattle.trace_print.specs.Prints.{HasCauses, is_cut_line}
 use Rattle.array_edge.specs.Array.{ArrayState}
+use Rattle.intent_store.specs.Intent.{ShowsImage}
 use Rattle.power_step.specs.Loses.{HasEnd}
 use Rattle.power_step.specs.Wrote.{Wrote}
 use Rattle.world_state.specs.Path.{PathState, plan_of}
@@ -25,12 +27,20 @@ abbrev pub cuts_allowed : Letter → ℕ
 cuts_allowed PowerActs = 1
 cuts_allowed actor = 0
 
+-- a run ends so only behind a cut
+abbrev pub NeedsCut : Result (Unit {0}) Halt → Type 0
+NeedsCut (Err PowerGone) = Unit {0}
+NeedsCut (Err BadImage) = Unit {0}
+NeedsCut result = ⊥
+
 pub record Steps {K : Type 0} (took : K → List ℕ → K → Type 0) (w : WorldState) (actor : Letter) (a : ArrayState) (old : K) (result : Result (Unit {0}) Halt) (w' : WorldState) (a' : ArrayState) (new : K) : Type 0 where
   pub lines : List Item
   pub wrote : Wrote took old lines result new
   pub tells : (s : State) → StandsFor w a s → StepTells w s actor lines result w' a'
   pub ends : HasEnd lines result
+  pub dark : NeedsCut result → 1 ≤ count_by is_cut_line lines
   pub causes : HasCauses (cuts_allowed actor) a a' lines result
+  pub image : ShowsImage a'
 
 -- where it went well the run is ready for the next step, and less is left to do where each step is the next one
 pub record GoesOn (w : WorldState) (actor : Letter) (w' : WorldState) (a' : ArrayState) : Type 0 where

@@ -1,6 +1,6 @@
 -- The first line, and what came behind it.
-use Rattle.std.proofs.Common.{◌≡◌, ◌∙◌, ◌++◌, ◌∷◌, ℕ, ◌+◌, true, IfSome, List, [], Option, Some, Result, Ok, Err, ap, refl, sym, subst, arith, length}
-use Rattle.std.specs.Prelude.{count_by}
+use Rattle.std.proofs.Common.{◌≡◌, ◌∙◌, ◌++◌, ◌∷◌, ℕ, ◌+◌, true, IfSome, List, [], Option, Some, Result, Ok, Err, ap, refl, sym, subst, arith, length, zero, suc, ◌≤◌, inl, inr, not, false}
+use Rattle.std.specs.Prelude.{count_by, replicate}
 use Rattle.io_edge.specs.Sink.{Joins}
 use Rattle.storage_machine.specs.declared.state.State.{State}
 use Rattle.storage_model.specs.declared.block.Block.{Block}
@@ -14,12 +14,18 @@ use Rattle.storage_model.specs.declared.trace.Item.{Item}
 use Rattle.storage_model.specs.declared.trace.Item.TheVariants.{Card}
 use Rattle.storage_runs.specs.Laws.{joined}
 use Rattle.run_laws.specs.Whole.{Finishes as FinishesSo, Whole, card_line, lines_shown, off_lines, opened}
-use Rattle.trace_print.specs.Prints.{RoseBy, halt_faults, is_flash}
+use Rattle.storage_model.specs.Count.{Count, Later}
+use Rattle.storage_model.specs.declared.faults.Letter.{Letter}
+use Rattle.cut_order.specs.Order.{OrderState, fresh}
+use Rattle.step_laws.proofs.EndLines.{cut_behind}
+use Rattle.step_laws.specs.Steps.{NeedsCut}
+use Rattle.trace_print.specs.Prints.{RoseBy, halt_faults, is_cut_line, is_flash}
+use Rattle.whole_run.specs.Cuts.{RoseWith, is_power, power_left}
 use Rattle.array_edge.specs.Array.{ArrayState}
 use Rattle.card_core.specs.Card.{sectors}
 use Rattle.card_store.specs.Store.{IsOpen}
-use Rattle.intent_store.specs.Intent.{ShowsImage}
-use Rattle.power_step.proofs.Counting.{count_no, fault_once, rose_before, rose_none}
+use Rattle.intent_store.specs.Intent.{ShowsImage, shown_by}
+use Rattle.power_step.proofs.Counting.{count_no, count_yes, fault_once, rose_before, rose_none}
 use Rattle.power_step.proofs.Taking.{wrote_behind}
 use Rattle.power_step.specs.Loses.{EndsBy, HasEnd}
 use Rattle.power_step.specs.Wrote.{Wrote}
@@ -37,16 +43,31 @@ abbrev pub behind : Result (Unit {0}) Halt → Result (Unit {0}) Stop
 behind (Ok done) = Ok tt
 behind (Err halt) = Err (Behind halt)
 
--- the run stopped before it
+-- the run stopped before it was whole
 module _ {K : Type 0} (took : K → List ℕ → K → Type 0) (plan : Plan) (faults : Faults) (a : ArrayState) (old : K) (w1 : WorldState) (a1 : ArrayState) (mid : K) where
-  rise : (halt : Halt) → Boots took plan faults a old (Err halt) w1 a1 mid → RoseBy (0 + halt_faults (Err halt)) a.faults a1.faults
-  rise SinkFailed boots = rose_none a.faults a1.faults boots.later_faults
-  rise OpenFault boots = fault_once a.faults a.faults a1.faults (record { value = omega arith; stands = λ end. end }) boots.cause
-  rise PowerGone boots = rose_none a.faults a1.faults boots.later_faults
-  rise BadImage boots = rose_none a.faults a1.faults boots.later_faults
+  broken_first : Boots took plan faults a old (Err SinkFailed) w1 a1 mid → (base : List Block) → shown_by a ≡ Some base → first_line w1.path ∷ [] ≡ card_line base plan ∷ []
+  broken_first boots base shown =
+      let first = subst (λ o. IfSome o (λ base. first_line w1.path ≡ card_line base plan)) (boots.shown ∙ shown) (boots.broken refl) in
+      ap (λ item. item ∷ []) first
+
+  none_cut : Later a.cuts a1.cuts → RoseWith 0 0 (length faults.cuts + count_by is_power faults.turns) a.cuts a1.cuts
+  none_cut later = let low = later.value in inl (omega (arith, low))
 
   pub stops_before : (halt : Halt) → Boots took plan faults a old (Err halt) w1 a1 mid → Runs took plan faults a old (Err (Before halt)) w1 a1 mid
-  stops_before halt boots = record {
+  stops_before SinkFailed boots = record {
+    lines = first_line w1.path ∷ [];
+    wrote = boots.wrote;
+    ends = tt;
+    before = (tt, boots.cause, boots.image, boots.shown);
+    tells = λ base shown. (broken_first boots base shown, boots.shown ∙ shown);
+    settled = λ is. absurd (cc is);
+    is_open = λ is. absurd (cc is);
+    later = record { faults = boots.later_faults; cuts = boots.later_cuts };
+    flash = rose_none a.faults a1.faults boots.later_faults;
+    cuts = none_cut boots.later_cuts;
+    image = boots.image;
+  }
+  stops_before OpenFault boots = record {
     lines = [];
     wrote = boots.wrote;
     ends = tt;
@@ -55,7 +76,35 @@ module _ {K : Type 0} (took : K → List ℕ → K → Type 0) (plan : Plan) (fa
     settled = λ is. absurd (cc is);
     is_open = λ is. absurd (cc is);
     later = record { faults = boots.later_faults; cuts = boots.later_cuts };
-    flash = rise halt boots;
+    flash = fault_once a.faults a.faults a1.faults (record { value = omega arith; stands = λ end. end }) boots.cause;
+    cuts = none_cut boots.later_cuts;
+    image = boots.image;
+  }
+  stops_before PowerGone boots = record {
+    lines = [];
+    wrote = boots.wrote;
+    ends = tt;
+    before = (refl, boots.cause, boots.image, boots.shown);
+    tells = λ base shown. boots.shown ∙ shown;
+    settled = λ is. absurd (cc is);
+    is_open = λ is. absurd (cc is);
+    later = record { faults = boots.later_faults; cuts = boots.later_cuts };
+    flash = rose_none a.faults a1.faults boots.later_faults;
+    cuts = none_cut boots.later_cuts;
+    image = boots.image;
+  }
+  stops_before BadImage boots = record {
+    lines = [];
+    wrote = boots.wrote;
+    ends = tt;
+    before = (refl, boots.cause, boots.image, boots.shown);
+    tells = λ base shown. boots.shown ∙ shown;
+    settled = λ is. absurd (cc is);
+    is_open = λ is. absurd (cc is);
+    later = record { faults = boots.later_faults; cuts = boots.later_cuts };
+    flash = rose_none a.faults a1.faults boots.later_faults;
+    cuts = none_cut boots.later_cuts;
+    image = boots.image;
   }
 
 -- the line of the card is the machine's
@@ -91,9 +140,9 @@ module _ (base : List Block) (plan : Plan) (faults : Faults) (first : Item) (is 
   tells_by (Err PowerGone) (front, last, s, are, parts, (end, t, off, finishes, near)) = (t, whole_by end front last s t are parts off finishes, near)
   tells_by (Err BadImage) (front, last, s, are, parts, (end, t, off, finishes, near)) = (t, whole_by end front last s t are parts off finishes, near)
 
-last_by : (first : Item) (lines : List Item) (result : Result (Unit {0}) Halt) → HasEnd lines result → HasLastLine (first ∷ lines) (behind result)
-last_by first lines (Ok done) end = tt
-last_by first lines (Err halt) end = end_behind (Err halt) (first ∷ []) lines end
+last_by : (first : Item) (lines : List Item) (result : Result (Unit {0}) Halt) → HasEnd lines result → (NeedsCut result → 1 ≤ count_by is_cut_line lines) → HasLastLine (first ∷ lines) (behind result)
+last_by first lines (Ok done) end dark = tt
+last_by first lines (Err halt) end dark = (end_behind (Err halt) (first ∷ []) lines end, λ needs. cut_behind (first ∷ []) lines (dark needs))
 
 good_then : (P : Type 0) (result : Result (Unit {0}) Halt) → (result ≡ Ok tt → P) → behind result ≡ Ok tt → P
 good_then P (Ok done) then is = then refl
@@ -111,6 +160,23 @@ halts_by : (result : Result (Unit {0}) Halt) → halt_faults (halt_in (behind re
 halts_by (Ok done) = refl
 halts_by (Err halt) = refl
 
+-- nothing is used at the first line
+fresh_left : (turns : List Letter) (cuts : List ℕ) → power_left (fresh turns cuts) ≡ length cuts + count_by is_power turns
+fresh_left turns cuts = ap (λ n. n + count_by is_power turns) (unused (length cuts))
+  where
+    unused : (n : ℕ) → count_by not (replicate n false) ≡ n
+    unused zero = refl
+    unused (suc n) = let one = count_yes not false (replicate n false) refl in let rest = unused n in omega (arith, one, rest)
+
+cuts_behind : (first : Item) (lines : List Item) (order : OrderState) (faults : Faults) → order ≡ fresh faults.turns faults.cuts → (a b c : Count) → Later a b → is_cut_line first ≡ false
+    → RoseWith (count_by is_cut_line lines) 0 (power_left order) b c → RoseWith (count_by is_cut_line (first ∷ lines)) 0 (length faults.cuts + count_by is_power faults.turns) a c
+cuts_behind first lines order faults is a b c later none (inl low) =
+    let same = count_no is_cut_line first lines none in
+    let left : power_left order ≡ length faults.cuts + count_by is_power faults.turns = ap power_left is ∙ fresh_left faults.turns faults.cuts in
+    let least = later.value in
+    inl (omega (arith, same, left, least, low))
+cuts_behind first lines order faults is a b c later none (inr end) = inr end
+
 module _ {K : Type 0} (took : K → List ℕ → K → Type 0) (both : Joins took) (plan : Plan) (faults : Faults) (a : ArrayState) (old : K) (w1 : WorldState) (a1 : ArrayState) (mid : K) (w' : WorldState) (a' : ArrayState) (new : K) where
   pub runs_on : (result : Result (Unit {0}) Halt) → Boots took plan faults a old (Ok tt) w1 a1 mid → Ends took w1 a1 mid result w' a' new → Runs took plan faults a old (behind result) w' a' new
   runs_on result boots ends =
@@ -118,7 +184,7 @@ module _ {K : Type 0} (took : K → List ℕ → K → Type 0) (both : Joins too
       record {
         lines = first ∷ ends.lines;
         wrote = wrote_by took old new (first ∷ ends.lines) result (wrote_behind took both old mid new (first ∷ []) ends.lines result boots.wrote ends.wrote);
-        ends = last_by first ends.lines result ends.ends;
+        ends = last_by first ends.lines result ends.ends ends.dark;
         before = before_by a a' (first ∷ ends.lines) result boots.cause;
         tells = λ base shown.
             let stands = subst (λ o. IfSome o (λ base. StandsFor w1 a1 (opened base plan faults) × (sectors w1.path.card ≡ length base))) (boots.shown ∙ shown) boots.stands in
@@ -130,4 +196,6 @@ module _ {K : Type 0} (took : K → List ℕ → K → Type 0) (both : Joins too
             subst (λ n. RoseBy n a.faults a'.faults)
             (ap (λ n. n + halt_faults result) (sym (count_no is_flash first ends.lines refl)) ∙ ap (λ n. count_by is_flash (first ∷ ends.lines) + n) (sym (halts_by result)))
             (rose_before (count_by is_flash ends.lines + halt_faults result) a.faults a1.faults a'.faults boots.later_faults ends.flash);
+        cuts = cuts_behind first ends.lines w1.order faults boots.order a.cuts a1.cuts a'.cuts boots.later_cuts refl ends.cuts;
+        image = λ _. ends.image;
       }

@@ -10,7 +10,10 @@ use Rattle.storage_model.specs.declared.trace.End.TheVariants.{Good, Fault}
 use Rattle.storage_model.specs.declared.trace.Item.{Item}
 use Rattle.run_laws.specs.Whole.{Dropped, Finishes as FinishesSo, off_lines}
 use Rattle.trace_effects.specs.Effects.{effect}
-use Rattle.trace_print.specs.Prints.{RoseBy}
+use Rattle.std.specs.Prelude.{count_by}
+use Rattle.trace_print.specs.Prints.{RoseBy, is_cut_line}
+use Rattle.whole_run.specs.Cuts.{power_left}
+use Rattle.whole_run.proofs.Cuts.{cuts_step}
 use Rattle.trace_rules.specs.Lines.{is_free, line_rule}
 use Rattle.storage_model.specs.declared.trace.End.{End}
 use Rattle.storage_model.specs.declared.trace.Item.TheVariants.{Off}
@@ -52,6 +55,9 @@ module _ {K : Type 0} (took : K → List ℕ → K → Type 0) (read : IsRead) (
     is_open = λ is. it.is_open refl;
     later = later_by 0 a a2 it.lines (Ok tt) it.causes;
     flash = it.causes.flash;
+    cuts = cuts_step (count_by is_cut_line it.lines) 0 0 (power_left w.order) a.cuts a2.cuts (omega arith) it.causes.cuts;
+    dark = it.dark;
+    image = it.image;
   }
 
   -- power was lost, and came again
@@ -64,12 +70,13 @@ module _ {K : Type 0} (took : K → List ℕ → K → Type 0) (read : IsRead) (
     plan = again.plan;
     later = later_by 0 a a2 it.lines (Ok tt) it.causes;
     flash = subst (λ n. RoseBy n a.faults a2.faults) (omega arith) it.causes.flash;
+    cuts = let same : power_left w2.order ≡ power_left w.order = ap power_left again.order in cuts_step (count_by is_cut_line it.lines) 0 (power_left w2.order) (power_left w.order) a.cuts a2.cuts (omega (arith, same)) it.causes.cuts;
   }
 
   -- the sink failed
-  broken_in : (s : State) (lines : List Item) → EndTells w s lines (Err SinkFailed) w2 a2 → EndsIn s lines (Err SinkFailed) w2 a2
-  broken_in s lines (inl none) = ([], lines, s, refl, ([], refl, refl), inl none)
-  broken_in s lines (inr drops) = ([], lines, s, refl, ([], refl, refl), inr (inr drops))
+  broken_in : (s : State) (lines : List Item) → StandsFor w a s → EndTells w s lines (Err SinkFailed) w2 a2 → EndsIn s lines (Err SinkFailed) w2 a2
+  broken_in s lines stands (inl (end, off, rule, near)) = ([], lines, s, refl, ([], refl, refl), inr (inr (end, effect s (Off end), off, ends_by s stands end rule, near)))
+  broken_in s lines stands (inr drops) = ([], lines, s, refl, ([], refl, refl), inr (inl drops))
 
   -- the line of a fault, or one among the lines of a cut
   abbrev Halts : State → List Item → Type 0
@@ -83,7 +90,7 @@ module _ {K : Type 0} (took : K → List ℕ → K → Type 0) (read : IsRead) (
   halts_in s lines stands (inr cut) = (lines, [], cut.0, sym (append-nil lines), part_alone s cut.0 lines (inr cut.1), (None, cut.0, refl, (cut.2, refl), cut.3))
 
   ends_in : (halt : Halt) (s : State) (lines : List Item) → StandsFor w a s → EndTells w s lines (Err halt) w2 a2 → EndsIn s lines (Err halt) w2 a2
-  ends_in SinkFailed s lines stands told = broken_in s lines told
+  ends_in SinkFailed s lines stands told = broken_in s lines stands told
   ends_in OpenFault s lines stands told = halts_in s lines stands told
   ends_in PowerGone s lines stands told = halts_in s lines stands told
   ends_in BadImage s lines stands told = halts_in s lines stands told
@@ -98,4 +105,7 @@ module _ {K : Type 0} (took : K → List ℕ → K → Type 0) (read : IsRead) (
     is_open = λ is. absurd (cc is);
     later = later_by 0 a a2 it.lines (Err halt) it.causes;
     flash = it.causes.flash;
+    cuts = cuts_step (count_by is_cut_line it.lines) 0 0 (power_left w.order) a.cuts a2.cuts (omega arith) it.causes.cuts;
+    dark = it.dark;
+    image = it.image;
   }

@@ -1,4 +1,5 @@
 pub mod Behind
+mod Cuts
 pub mod Ending
 pub mod Parts
 pub mod Went

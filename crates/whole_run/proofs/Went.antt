@@ -1,5 +1,5 @@
 -- Events behind events, and the end behind them.
-use Rattle.std.proofs.Common.{◌≡◌, ◌∙◌, ◌++◌, ◌∷◌, inl, inr, ℕ, ◌+◌, true, List, [], None, Result, Ok, Err, ap, refl, sym, subst, arith}
+use Rattle.std.proofs.Common.{◌≡◌, ◌∙◌, ◌++◌, ◌∷◌, inl, ℕ, ◌+◌, true, List, [], None, Result, Ok, Err, ap, refl, sym, subst, arith}
 use Rattle.std.proofs.lemmas.List.{append_assoc, append-nil}
 use Rattle.std.specs.Prelude.{count_by}
 use Rattle.io_edge.specs.Sink.{Joins}
@@ -10,7 +10,10 @@ use Rattle.storage_model.specs.declared.trace.Item.{Item}
 use Rattle.storage_runs.specs.Laws.{joined}
 use Rattle.run_laws.specs.Whole.{Part}
 use Rattle.trace_print.proofs.Joined.{taken_behind}
-use Rattle.trace_print.specs.Prints.{HasCauses, RoseBy, halt_faults, is_flash}
+use Rattle.trace_print.specs.Prints.{HasCauses, RoseBy, halt_faults, is_cut_line, is_flash}
+use Rattle.step_laws.proofs.EndLines.{cut_behind}
+use Rattle.whole_run.specs.Cuts.{power_left}
+use Rattle.whole_run.proofs.Cuts.{cuts_join, cuts_step, power_used}
 use Rattle.array_edge.specs.Array.{ArrayState}
 use Rattle.power_step.proofs.Counting.{count_join, later_both, later_same, rose_none}
 use Rattle.power_step.proofs.Taking.{wrote_behind}
@@ -20,7 +23,7 @@ use Rattle.world_state.specs.Laws.{StateLaws}
 use Rattle.world_state.specs.Ties.{IsReady}
 use Rattle.world_steps.specs.Reading.{IsRead}
 use Rattle.world_steps.specs.Steps.{Shown, StepTells}
-use Rattle.world_steps.specs.World.{IsPrompt, StandsFor, WorldState, chosen_of, is_to_do}
+use Rattle.world_steps.specs.World.{IsPrompt, StandsFor, WorldState, chosen_of, is_to_do, order_behind}
 use Rattle.whole_run.specs.Course.{AreLater, Ends, EndsIn, Parts, Went}
 use Rattle.whole_run.proofs.Parts.{course_both, joined_both, part_begun, part_next, rose_join}
 
@@ -56,6 +59,7 @@ went_none took nothing w a out ready = record {
   plan = refl;
   later = record { faults = later_same a.faults; cuts = later_same a.cuts };
   flash = rose_none a.faults a.faults (later_same a.faults);
+  cuts = inl (omega arith);
 }
 
 parts_both : (s t u : State) (front back : List Item) → Parts s front t → Parts t back u → Parts s (front ++ back) u
@@ -78,6 +82,7 @@ module _ {K : Type 0} (took : K → List ℕ → K → Type 0) (both : Joins too
     flash =
         let all = flash_join went.lines more.lines 0 a a1 a2 more.later went.flash (subst (λ n. RoseBy n a1.faults a2.faults) (omega arith) more.flash) in
         subst (λ n. RoseBy n a.faults a2.faults) (omega arith) all;
+    cuts = cuts_join went.lines more.lines (power_left w.order) (power_left w1.order) (power_left w2.order) a.cuts a1.cuts a2.cuts more.later.cuts went.cuts more.cuts;
   }
 
   -- and the end
@@ -101,6 +106,9 @@ module _ {K : Type 0} (took : K → List ℕ → K → Type 0) (both : Joins too
     is_open = ends.is_open;
     later = later_on a a1 a2 went.later ends.later;
     flash = flash_join went.lines ends.lines (halt_faults result) a a1 a2 ends.later went.flash ends.flash;
+    cuts = cuts_join went.lines ends.lines (power_left w.order) (power_left w1.order) 0 a.cuts a1.cuts a2.cuts ends.later.cuts went.cuts ends.cuts;
+    dark = λ needs. cut_behind went.lines ends.lines (ends.dark needs);
+    image = ends.image;
   }
 
 pub part_alone : (s t : State) (lines : List Item) → Part s lines t → Parts s lines t
@@ -120,12 +128,15 @@ module _ {K : Type 0} (took : K → List ℕ → K → Type 0) (read : IsRead) (
     plan = on.plan;
     later = later_by (cuts_allowed (chosen_of w)) a a2 step.lines (Ok tt) step.causes;
     flash = subst (λ n. RoseBy n a.faults a2.faults) (omega arith) step.causes.flash;
+    cuts =
+        let used = power_used w in
+        let order : power_left w2.order ≡ power_left (order_behind w (chosen_of w)) = ap power_left on.order in
+        cuts_step (count_by is_cut_line step.lines) (cuts_allowed (chosen_of w)) (power_left w2.order) (power_left w.order) a.cuts a2.cuts (omega (arith, used, order)) step.causes.cuts;
   }
 
   -- the end of a step that stopped the run
   broken_in : (s : State) (lines : List Item) → StandsFor w a s → StepTells w s (chosen_of w) lines (Err SinkFailed) w2 a2 → EndsIn s lines (Err SinkFailed) w2 a2
-  broken_in s lines stands (inl none) = ([], lines, s, refl, ([], refl, refl), inl none)
-  broken_in s lines stands (inr begun) = ([], lines, s, refl, ([], refl, refl), inr (inl (begun.0, part_begun read laws w a s stands some lines begun.0 prompt begun.1, begun.2)))
+  broken_in s lines stands begun = ([], lines, s, refl, ([], refl, refl), inl (begun.0, part_begun read laws w a s stands some lines begun.0 prompt begun.1, begun.2))
 
   stops_in : (halt : Halt) → (s : State) (lines : List Item) → StandsFor w a s → StepTells w s (chosen_of w) lines (Err halt) w2 a2 → EndsIn s lines (Err halt) w2 a2
   stops_in SinkFailed s lines stands told = broken_in s lines stands told
@@ -143,4 +154,9 @@ module _ {K : Type 0} (took : K → List ℕ → K → Type 0) (read : IsRead) (
     is_open = λ is. absurd (cc is);
     later = later_by (cuts_allowed (chosen_of w)) a a2 step.lines (Err halt) step.causes;
     flash = step.causes.flash;
+    cuts =
+        let used = power_used w in
+        cuts_step (count_by is_cut_line step.lines) (cuts_allowed (chosen_of w)) 0 (power_left w.order) a.cuts a2.cuts (omega (arith, used)) step.causes.cuts;
+    dark = step.dark;
+    image = step.image;
   }

@@ -1,5 +1,5 @@
 -- The events of a run behind its first line, and how it ends.
-use Rattle.std.specs.Prelude.{◌≡◌, ◌⊎◌, ◌++◌, ℕ, ◌+◌, true, IfSome, List, [], Option, Some, Result, Ok, Err, count_by}
+use Rattle.std.specs.Prelude.{◌≡◌, ◌⊎◌, ◌++◌, ℕ, ◌+◌, true, IfSome, List, [], Option, Some, Result, Ok, Err, count_by, ◌≤◌}
 use Rattle.storage_machine.specs.declared.state.State.{State}
 use Rattle.storage_model.specs.declared.ends.Halt.{Halt}
 use Rattle.storage_model.specs.declared.ends.Halt.TheVariants.{SinkFailed}
@@ -9,11 +9,13 @@ use Rattle.storage_model.specs.declared.trace.Item.{Item}
 use Rattle.storage_model.specs.Count.{Later}
 use Rattle.storage_runs.specs.Laws.{Opens, joined}
 use Rattle.run_laws.specs.Whole.{Course, DropsFirst, Finishes, off_lines}
-use Rattle.trace_print.specs.Prints.{RoseBy, halt_faults, is_flash}
+use Rattle.step_laws.specs.Steps.{NeedsCut}
+use Rattle.trace_print.specs.Prints.{RoseBy, halt_faults, is_cut_line, is_flash}
+use Rattle.whole_run.specs.Cuts.{RoseWith, power_left}
 use Rattle.trace_text.specs.Trace.{items_text}
 use Rattle.array_edge.specs.Array.{ArrayState}
 use Rattle.card_store.specs.Store.{IsOpen}
-use Rattle.intent_store.specs.Intent.{shown_by}
+use Rattle.intent_store.specs.Intent.{ShowsImage, shown_by}
 use Rattle.power_step.specs.Loses.{HasEnd}
 use Rattle.power_step.specs.Wrote.{Wrote}
 use Rattle.world_state.specs.Path.{plan_of}
@@ -44,12 +46,14 @@ pub record Went {K : Type 0} (took : K → List ℕ → K → Type 0) (w : World
   pub plan : plan_of w'.path ≡ plan_of w.path
   pub later : AreLater a a'
   pub flash : RoseBy (count_by is_flash lines) a.faults a'.faults
+  pub cuts : RoseWith (count_by is_cut_line lines) (power_left w'.order) (power_left w.order) a.cuts a'.cuts
 
--- the first lines of one more part, as many as were written where the sink failed, and what the pages are near then
+-- the first lines of one more part, or the end's line: the sink failed in the last of them, and the pages are near the state behind it
 abbrev pub BreaksNear : State → List Item → ArrayState → Type 0
 BreaksNear s first a =
-    ((first ≡ []) × IfSome (shown_by a) (IsNear s))
-    ⊎ (((last : State) × Opens s first last × IfSome (shown_by a) (IsNear last)) ⊎ ((drops : DropsFirst s first) × IfSome (shown_by a) (IsNear drops.1)))
+    ((last : State) × Opens s first last × IfSome (shown_by a) (IsNear last))
+    ⊎ (((drops : DropsFirst s first) × IfSome (shown_by a) (IsNear drops.1))
+    ⊎ ((end : End) × (t : State) × (first ≡ off_lines (Some end)) × Finishes s (Some end) t × IfSome (shown_by a) (IsNear t)))
 
 -- The end behind these parts: the line of a good end, the first lines of a part, or the line of another end.
 abbrev pub EndsBehind : State → List Item → Result (Unit {0}) Halt → WorldState → ArrayState → Type 0
@@ -71,3 +75,6 @@ pub record Ends {K : Type 0} (took : K → List ℕ → K → Type 0) (w : World
   pub is_open : result ≡ Ok tt → IsOpen w'.path.card.store a'
   pub later : AreLater a a'
   pub flash : RoseBy (count_by is_flash lines + halt_faults result) a.faults a'.faults
+  pub cuts : RoseWith (count_by is_cut_line lines) 0 (power_left w.order) a.cuts a'.cuts
+  pub dark : NeedsCut result → 1 ≤ count_by is_cut_line lines
+  pub image : ShowsImage a'

@@ -7,6 +7,7 @@ use Rattle.storage_model.specs.declared.ends.Halt.{Halt}
 use Rattle.storage_model.specs.declared.ends.Halt.TheVariants.{SinkFailed, OpenFault, PowerGone, BadImage}
 use Rattle.storage_model.specs.declared.faults.Faults.{Faults}
 use Rattle.storage_model.specs.declared.plan.Plan.{Plan}
+use Rattle.storage_model.specs.declared.trace.Item.TheVariants.{Card}
 use Rattle.trace_print.specs.Prints.{Takes}
 use Rattle.array_edge.specs.Array.{ArrayState}
 use Rattle.card_core.specs.Card.{CardState, sectors}
@@ -24,7 +25,7 @@ use Rattle.end_laws.specs.Ends.{AreToCome, IsFresh, IsSoundFresh, StandsOpened}
 use Rattle.host_mem.specs.Memory.{Memory}
 use Rattle.intent_store.specs.Intent.{shown_by}
 use Rattle.power_step.proofs.Taking.{part_of_one}
-use Rattle.run_laws.specs.Whole.{opened}
+use Rattle.run_laws.specs.Whole.{card_line, lines_shown, opened}
 use Rattle.world_state.specs.Path.{PathState, plan_of, under_way}
 use Rattle.world_state.specs.Ties.{AreTied, IsReady, phase_words}
 use Rattle.world_steps.specs.World.{IsPrompt, StandsFor, WorldState}
@@ -51,9 +52,9 @@ module _ {K : Type 0} (took : K → List ℕ → K → Type 0) (plan : Plan) (fa
   pub boots_shut : (nothing : (out : K) → took out [] out) (old : K) (halt : Halt) (w' : WorldState) (card' : CardState) (a' : ArrayState) → OpensFirst w.path.card a (Err halt) card' a'
       → Boots took plan faults a old (Err halt) w' a' old
   boots_shut nothing old SinkFailed w' card' a' opens = absurd opens.cause
-  boots_shut nothing old OpenFault w' card' a' opens = record { wrote = nothing old; shown = opens.shown; image = opens.image; cause = opens.cause; later_faults = opens.later_faults; later_cuts = opens.later_cuts; keeps = tt; ready = tt; prompt = tt; stands = tt }
-  boots_shut nothing old PowerGone w' card' a' opens = record { wrote = nothing old; shown = opens.shown; image = opens.image; cause = opens.cause; later_faults = opens.later_faults; later_cuts = opens.later_cuts; keeps = tt; ready = tt; prompt = tt; stands = tt }
-  boots_shut nothing old BadImage w' card' a' opens = record { wrote = nothing old; shown = opens.shown; image = opens.image; cause = opens.cause; later_faults = opens.later_faults; later_cuts = opens.later_cuts; keeps = tt; ready = tt; prompt = tt; stands = tt }
+  boots_shut nothing old OpenFault w' card' a' opens = record { wrote = nothing old; shown = opens.shown; image = opens.image; cause = opens.cause; later_faults = opens.later_faults; later_cuts = opens.later_cuts; broken = λ is. absurd (cc is); keeps = tt; order = tt; ready = tt; prompt = tt; stands = tt }
+  boots_shut nothing old PowerGone w' card' a' opens = record { wrote = nothing old; shown = opens.shown; image = opens.image; cause = opens.cause; later_faults = opens.later_faults; later_cuts = opens.later_cuts; broken = λ is. absurd (cc is); keeps = tt; order = tt; ready = tt; prompt = tt; stands = tt }
+  boots_shut nothing old BadImage w' card' a' opens = record { wrote = nothing old; shown = opens.shown; image = opens.image; cause = opens.cause; later_faults = opens.later_faults; later_cuts = opens.later_cuts; broken = λ is. absurd (cc is); keeps = tt; order = tt; ready = tt; prompt = tt; stands = tt }
 
   module _ (sound : IsSoundFresh) (stands : StandsOpened) (tied : (p : PathState) (a : ArrayState) (p' : PathState) (a' : ArrayState) → IsTiedAnew p a p' a') (valid : IsValidPlan plan) (coming : AreToCome faults) (fresh : IsFresh plan faults w)
       (w' : WorldState) (a' : ArrayState) (opens : OpensFirst w.path.card a (Ok tt) w'.path.card a')
@@ -94,6 +95,13 @@ module _ {K : Type 0} (took : K → List ℕ → K → Type 0) (plan : Plan) (fa
     stood (Some base) is store =
         (stands plan faults w a w' a' base valid coming fresh (record { anew = set; order = order }) is, ap (λ o. unwrap_or o 0) store.sectors)
 
+    -- the line of the card is the machine's
+    first_so : (shown : Option (List Block)) → shown_by a' ≡ shown → IfSome shown (λ base. first_line w'.path ≡ card_line base plan)
+    first_so None is = tt
+    first_so (Some base) is =
+        let long = (subst (λ o. IfSome o (λ base. StandsFor w' a' (opened base plan faults) × (sectors w'.path.card ≡ length base))) is (stood (shown_by a') refl opens.opened.anew.stands)).1 in
+        ap (λ n. Card n (plan_of w'.path).depth (lines_shown (plan_of w'.path))) long ∙ ap (λ (p : Plan). Card (length base) p.depth (lines_shown p)) keeps
+
     pub boots_opened : (old new : K) (result : Result (Unit {0}) Halt) → Takes took old (first_line w'.path ∷ []) result new → IfErr result (λ halt. halt ≡ SinkFailed) → Boots took plan faults a old result w' a' new
     boots_opened old new (Ok done) taken is = record {
       wrote = taken;
@@ -102,7 +110,9 @@ module _ {K : Type 0} (took : K → List ℕ → K → Type 0) (plan : Plan) (fa
       cause = opens.cause;
       later_faults = opens.later_faults;
       later_cuts = opens.later_cuts;
+      broken = λ is. absurd (cc is);
       keeps = keeps;
+      order = order ∙ fresh.order;
       ready = ready;
       prompt = prompt;
       stands = stood (shown_by a') refl opens.opened.anew.stands;
@@ -114,7 +124,9 @@ module _ {K : Type 0} (took : K → List ℕ → K → Type 0) (plan : Plan) (fa
       cause = opens.cause;
       later_faults = opens.later_faults;
       later_cuts = opens.later_cuts;
+      broken = λ is. first_so (shown_by a') refl;
       keeps = tt;
+      order = tt;
       ready = tt;
       prompt = tt;
       stands = tt;

@@ -1,5 +1,5 @@
 -- The end of a run: by its last flush, or behind a cut of it.
-use Rattle.std.proofs.Common.{◌≡◌, ◌∙◌, inl, inr, ◌++◌, ◌∷◌, ◌==◌, ℕ, Bool, true, false, IfSome, List, [], Result, Ok, Err, is_some, ap, refl, sym, subst}
+use Rattle.std.proofs.Common.{◌≡◌, ◌∙◌, inl, inr, ◌++◌, ◌∷◌, ◌==◌, ℕ, Bool, true, false, IfSome, List, [], None, Option, Some, Result, Ok, Err, is_some, ap, refl, sym, subst}
 use Rattle.std.specs.Prelude.{count_by, not, ◌||◌}
 use Rattle.storage_machine.specs.declared.state.Owed.TheVariants.{End as Ended}
 use Rattle.storage_machine.specs.declared.state.State.{State}
@@ -10,10 +10,13 @@ use Rattle.storage_model.specs.declared.trace.End.{End}
 use Rattle.storage_model.specs.declared.trace.End.TheVariants.{Good, Fault, Dead, Image}
 use Rattle.storage_model.specs.declared.trace.Item.{Item}
 use Rattle.storage_model.specs.declared.trace.Item.TheVariants.{Cut, Off}
+use Rattle.storage_model.specs.declared.block.Block.{Block}
+use Rattle.trace_effects.specs.Effects.{effect}
+use Rattle.trace_rules.specs.Lines.{line_rule}
 use Rattle.trace_print.specs.Prints.{HasCauses, Takes}
 use Rattle.trace_text.specs.Trace.{items_text}
 use Rattle.array_edge.specs.Array.{ArrayState}
-use Rattle.intent_store.specs.Intent.{shown_by}
+use Rattle.intent_store.specs.Intent.{ShowsImage, shown_by}
 use Rattle.intent_store.specs.declared.ends.StoreEnd.{StoreEnd}
 use Rattle.intent_store.specs.declared.ends.StoreEnd.TheVariants.{Flash, PowerLost}
 use Rattle.card_core.specs.Card.{HoldsNothing}
@@ -28,13 +31,19 @@ use Rattle.join_laws.specs.Flushes.{IsAtLast, IsFlushBackOn, IsFlushEnded, IsFlu
 use Rattle.join_laws.specs.Joins.{before}
 use Rattle.power_laws.specs.Power.{FlushEvent, FlushSteps}
 use Rattle.power_step.proofs.Counting.{rose_none}
+use Rattle.power_step.proofs.Images.{open_image}
 use Rattle.power_step.proofs.Taking.{part_of_one}
-use Rattle.power_step.specs.Loses.{BreaksAtOnce, IsBackOn, Loses, LosesPower}
+use Rattle.power_step.specs.Loses.{IsBackOn, Loses}
 use Rattle.power_step.specs.Wrote.{TakesPart}
 use Rattle.run_laws.specs.Whole.{Dropped, DropsFirst}
+use Rattle.step_laws.proofs.EndLines.{cut_among}
 use Rattle.world_state.specs.Path.{PathState, plan_of}
-use Rattle.world_state.specs.Reading.{Context}
-use Rattle.world_state.specs.Stands.{IsNear}
+use Rattle.cut_order.specs.Order.{OrderState}
+use Rattle.front_laws.proofs.Nears.{keeps_near}
+use Rattle.front_laws.proofs.Now.{shown_near}
+use Rattle.world_state.specs.Laws.{StateLaws}
+use Rattle.world_state.specs.Reading.{Context, state_of}
+use Rattle.world_state.specs.Stands.{IsNear, Stands}
 use Rattle.world_state.specs.Ties.{IsReady}
 use Rattle.world_state.specs.Told.{IsLosing, StaysDark}
 use Rattle.world_state.specs.Work.{issued, waiting}
@@ -44,7 +53,7 @@ use Rattle.world.specs.Runs.{Finishes, IsAgain}
 use Rattle.world.specs.declared.finish.Finish.TheVariants.{Off as IsOff, Again}
 
 -- the sink failed within the one line
-pub part_of_halt : {K : Type 0} (took : K → List ℕ → K → Type 0) (old new : K) (item : Item) (halt : Halt) → Takes took old (item ∷ []) (Err halt) new → halt ≡ SinkFailed → TakesPart took old [] new
+pub part_of_halt : {K : Type 0} (took : K → List ℕ → K → Type 0) (old new : K) (item : Item) (halt : Halt) → Takes took old (item ∷ []) (Err halt) new → halt ≡ SinkFailed → TakesPart took old (item ∷ []) new
 part_of_halt took old new item halt takes is = part_of_one took old new item (subst (λ h. Takes took old (item ∷ []) (Err h) new) is takes)
 
 first_or : (x y : Bool) → (x || y) ≡ false → x ≡ false
@@ -67,13 +76,22 @@ nothing_left p p' requests calm none =
     ∙ ap (λ r. not (waiting p == 0) || (not (0 == 0) || is_recovering r)) calm
     ∙ ap (λ x. x || (not (0 == 0) || is_recovering Calm)) idle
 
-causes_none : (a a' : ArrayState) → Later a.faults a'.faults → Later a.cuts a'.cuts → HasCauses 0 a a' [] (Err SinkFailed)
-causes_none a a' faults cuts = record {
+causes_off : (end : End) (a a' : ArrayState) → Later a.faults a'.faults → Later a.cuts a'.cuts → HasCauses 0 a a' (Off end ∷ []) (Err SinkFailed)
+causes_off end a a' faults cuts = record {
   later_faults = faults;
   later_cuts = cuts;
   flash = rose_none a.faults a'.faults faults;
   cuts = rose_none a.cuts a'.cuts cuts;
 }
+
+-- what the path stands for is near
+near_owed : (s t : State) (shown : Option (List Block)) → t ≡ record s { owed = t.owed } → IfSome shown (IsNear s) → IfSome shown (IsNear t)
+near_owed s t None is near = tt
+near_owed s t (Some pages) is near = subst (λ (x : State). IsNear x pages) (sym is) (keeps_near s s.letters s.event t.owed pages near)
+
+near_of : StateLaws → (p : PathState) (o : OrderState) (a : ArrayState) (t : State) → Stands p o a t → IfSome (shown_by a) (IsNear t)
+near_of laws p o a t stands =
+    near_owed (state_of p o stands.context) t (shown_by a) stands.state (shown_near laws p a o stands.context p.card.store a stands.agrees stands.agrees.store)
 
 module _ (read : IsRead) (ends : EndsByFlush) (explained : AreFlushesExplained) (joined : AreJoined) (steps : FlushSteps) {K : Type 0} (took : K → List ℕ → K → Type 0)
     (w : WorldState) (a : ArrayState) (old new : K) (ready : IsReady w.path a) (none : is_to_do w.path ≡ false) (p1 : PathState) (a1 : ArrayState) where
@@ -81,19 +99,32 @@ module _ (read : IsRead) (ends : EndsByFlush) (explained : AreFlushesExplained) 
   may_end result event s f =
       subst (λ s. MayEnd w.path w.order a p1 a1 result s) (sym f.state) (ends w a p1 a1 result f.context event f.agrees ((read w a f.context f.agrees).to_do ∙ none))
 
-  -- no line was whole
-  pub ends_broken : (result : Result (Unit {0}) StoreEnd) (halt : Halt) (w' : WorldState) → FlushEvent w.path a p1 a1 result → halt ≡ SinkFailed → TakesPart took old [] new → Finishes took w a old (Err halt) w' a1 new
-  ends_broken result halt w' event is part =
+  -- the sink failed in the end's line
+  ends_in_line : (end : End) (halt : Halt) (w' : WorldState) → Later a.faults a1.faults → Later a.cuts a1.cuts
+      → ((s : State) → StandsFor w a s → (line_rule s (Off end) ≡ None) × IfSome (shown_by a1) (IsNear (effect s (Off end)))) → halt ≡ SinkFailed → TakesPart took old (Off end ∷ []) new → ShowsImage a1
+      → Finishes took w a old (Err halt) w' a1 new
+  ends_in_line end halt w' faults cuts may is part image =
       subst (λ halt. Finishes took w a old (Err halt) w' a1 new) (sym is)
       (record {
-        lines = [];
+        lines = Off end ∷ [];
         wrote = part;
-        tells = λ s f. inl (refl, (may_end result event s f).near);
+        tells = λ s f. inl (end, refl, (may s f).0, (may s f).1);
         ends = tt;
-        causes = causes_none a a1 event.ends.faults event.ends.cuts;
+        dark = λ none. absurd none;
+        causes = causes_off end a a1 faults cuts;
         settled = λ is. absurd (cc);
         is_open = λ is. absurd (cc);
+        image = image;
       })
+
+  pub good_broken : StateLaws → (halt : Halt) (w' : WorldState) → FlushEvent w.path a p1 a1 (Ok tt) → halt ≡ SinkFailed → TakesPart took old (Off Good ∷ []) new → Finishes took w a old (Err halt) w' a1 new
+  good_broken laws halt w' event is part =
+      ends_in_line Good halt w' event.ends.faults event.ends.cuts
+      (λ s f. ((may_end (Ok tt) event s f).good, near_of laws p1 w.order a1 (effect s (Off Good)) (may_end (Ok tt) event s f).stands)) is part (open_image p1.card.store a1 event.stored.fits)
+
+  pub fault_broken : (halt : Halt) (w' : WorldState) → FlushEvent w.path a p1 a1 (Err Flash) → halt ≡ SinkFailed → TakesPart took old (Off Fault ∷ []) new → Finishes took w a old (Err halt) w' a1 new
+  fault_broken halt w' event is part =
+      ends_in_line Fault halt w' event.ends.faults event.ends.cuts (λ s f. ((may_end (Err Flash) event s f).fault refl, (may_end (Err Flash) event s f).near_fault refl)) is part (open_image p1.card.store a1 event.stored.fits)
 
   pub ends_good : FlushEvent w.path a p1 a1 (Ok tt) → a1.settled ≡ true → took old (items_text (Off Good ∷ [])) new → Finishes took w a old (Ok IsOff) (record { path = p1; order = w.order }) a1 new
   ends_good event settled taken = record {
@@ -101,9 +132,11 @@ module _ (read : IsRead) (ends : EndsByFlush) (explained : AreFlushesExplained) 
     wrote = taken;
     tells = λ s f. (refl, (may_end (Ok tt) event s f).good, (may_end (Ok tt) event s f).kept, (may_end (Ok tt) event s f).stands);
     ends = tt;
+    dark = λ none. absurd none;
     causes = (explained w.path a p1 a1 (Ok tt) event ready.powered).good.0;
     settled = λ is. settled;
     is_open = λ is. event.stored.fits;
+    image = open_image p1.card.store a1 event.stored.fits;
   }
 
   pub ends_fault : (w' : WorldState) → FlushEvent w.path a p1 a1 (Err Flash) → took old (items_text (Off Fault ∷ [])) new → Finishes took w a old (Err OpenFault) w' a1 new
@@ -112,9 +145,11 @@ module _ (read : IsRead) (ends : EndsByFlush) (explained : AreFlushesExplained) 
     wrote = taken;
     tells = λ s f. inl (refl, (may_end (Err Flash) event s f).fault refl, (may_end (Err Flash) event s f).near_fault refl);
     ends = ([], refl);
+    dark = λ none. absurd none;
     causes = (explained w.path a p1 a1 (Err Flash) event ready.powered).fault refl;
     settled = λ is. absurd (cc);
     is_open = λ is. absurd (cc);
+    image = open_image p1.card.store a1 event.stored.fits;
   }
 
   module _ (event : FlushEvent w.path a p1 a1 (Err PowerLost)) where
@@ -135,6 +170,7 @@ module _ (read : IsRead) (ends : EndsByFlush) (explained : AreFlushesExplained) 
           none = nothing_left w.path p2 (back.anew.requests ∙ ap forgotten same) back.anew.calm none;
           empty = back.empty;
           plan = back.plan ∙ ap (λ (p : PathState). plan_of p) event.stored.path;
+          order = refl;
         }
 
     -- a flush that finds nothing to stage isn't cut
@@ -150,22 +186,20 @@ module _ (read : IsRead) (ends : EndsByFlush) (explained : AreFlushesExplained) 
       abbrev w2 : WorldState
       w2 = record { path = p2; order = w.order }
 
-      back_at : LosesPower took p1 a1 old (Ok tt) p2 a2 new → Finishes took w a old (Ok Again) w2 a2 new
-      back_at l = record {
+      pub lost_again : Loses took p1 a1 old (Ok tt) p2 a2 new → Finishes took w a old (Ok Again) w2 a2 new
+      lost_again l = record {
         lines = Cut ∷ l.items;
         wrote = l.wrote;
         tells = λ s f.
             subst (λ s. (t : State) × Dropped s (Cut ∷ l.items) t × StandsFor w2 a2 t) (sym f.state)
             (back w f.context l.items p2 a2 (at_last s f) (l.leaves (before w f.context) w.order (losing s f)));
         ends = tt;
+        dark = λ none. absurd none;
         causes = causes_lost l.items a2 (Ok tt) l.causes;
         settled = λ is. absurd (cc);
         is_open = λ is. absurd (cc);
+        image = l.image (open_image p1.card.store a1 event.stored.fits);
       }
-
-      pub lost_again : Loses took p1 a1 old (Ok tt) p2 a2 new → Finishes took w a old (Ok Again) w2 a2 new
-      lost_again (inl broke) = let no = broke.failed in absurd (cc)
-      lost_again (inr l) = back_at l
 
       abbrev IsOver : State → List Item → Type 0
       IsOver s items = (t : State) × Dropped s (Cut ∷ items) t × (t.owed ≡ Ended) × IfSome (shown_by a2) (IsNear t)
@@ -175,49 +209,50 @@ module _ (read : IsRead) (ends : EndsByFlush) (explained : AreFlushesExplained) 
           subst (λ s. IsOver s items) (sym f.state)
           (subst (λ xs. IsOver (before w f.context) xs) (sym are) (ended w f.context front end a2 (at_last s f) (subst (λ xs. StaysDark (before w f.context) xs a2) are dark)))
 
-      broken : (halt : Halt) (w' : WorldState) → BreaksAtOnce took a1 old (Err halt) a2 new → halt ≡ SinkFailed → Finishes took w a old (Err halt) w' a2 new
-      broken halt w' broke is = subst (λ x. Finishes took w a old (Err halt) w' x new) (sym broke.same) (ends_broken (Err PowerLost) halt w' event is broke.part)
-
       pub lost_halt : (halt : Halt) (w' : WorldState) → Loses took p1 a1 old (Err halt) p2 a2 new → Finishes took w a old (Err halt) w' a2 new
-      lost_halt SinkFailed w' (inl broke) = broken SinkFailed w' broke refl
-      lost_halt OpenFault w' (inl broke) = let no = broke.failed in absurd (cc)
-      lost_halt PowerGone w' (inl broke) = let no = broke.failed in absurd (cc)
-      lost_halt BadImage w' (inl broke) = let no = broke.failed in absurd (cc)
-      lost_halt SinkFailed w' (inr l) = record {
+      lost_halt SinkFailed w' l = record {
         lines = Cut ∷ l.items;
         wrote = l.wrote;
         tells = λ s f.
             inr (subst (λ s. (first : DropsFirst s (Cut ∷ l.items)) × IfSome (shown_by a2) (IsNear first.1)) (sym f.state)
             (stopped w f.context l.items a2 (at_last s f) (l.leaves (before w f.context) w.order (losing s f))));
         ends = tt;
+        dark = λ none. absurd none;
         causes = causes_lost l.items a2 (Err SinkFailed) l.causes;
         settled = λ is. absurd (cc);
         is_open = λ is. absurd (cc);
+        image = l.image (open_image p1.card.store a1 event.stored.fits);
       }
-      lost_halt OpenFault w' (inr l) = record {
+      lost_halt OpenFault w' l = record {
         lines = Cut ∷ l.items;
         wrote = l.wrote;
         tells = λ s f. inr (over l.items l.end.0 Fault l.end.1 s f (l.leaves (before w f.context) w.order (losing s f)));
         ends = (Cut ∷ l.end.0, ap (λ items. Cut ∷ items) l.end.1);
+        dark = λ none. absurd none;
         causes = causes_lost l.items a2 (Err OpenFault) l.causes;
         settled = λ is. absurd (cc);
         is_open = λ is. absurd (cc);
+        image = l.image (open_image p1.card.store a1 event.stored.fits);
       }
-      lost_halt PowerGone w' (inr l) = record {
+      lost_halt PowerGone w' l = record {
         lines = Cut ∷ l.items;
         wrote = l.wrote;
         tells = λ s f. inr (over l.items l.end.0 Dead l.end.1 s f (l.leaves (before w f.context) w.order (losing s f)));
         ends = (Cut ∷ l.end.0, ap (λ items. Cut ∷ items) l.end.1);
+        dark = λ _. cut_among [] l.items;
         causes = causes_lost l.items a2 (Err PowerGone) l.causes;
         settled = λ is. absurd (cc);
         is_open = λ is. absurd (cc);
+        image = l.image (open_image p1.card.store a1 event.stored.fits);
       }
-      lost_halt BadImage w' (inr l) = record {
+      lost_halt BadImage w' l = record {
         lines = Cut ∷ l.items;
         wrote = l.wrote;
         tells = λ s f. inr (over l.items l.end.0 Image l.end.1 s f (l.leaves (before w f.context) w.order (losing s f)));
         ends = (Cut ∷ l.end.0, ap (λ items. Cut ∷ items) l.end.1);
+        dark = λ _. cut_among [] l.items;
         causes = causes_lost l.items a2 (Err BadImage) l.causes;
         settled = λ is. absurd (cc);
         is_open = λ is. absurd (cc);
+        image = l.image (open_image p1.card.store a1 event.stored.fits);
       }

@@ -62,7 +62,7 @@ module _ {K : Type 0} (took : K → List ℕ → K → Type 0) (w : WorldState) 
   pub begins : (old new : K) (result : Result (Unit {0}) Halt) → letter_lines w actor ≡ Turn actor ∷ [] → IfErr result (λ halt. halt ≡ SinkFailed)
       → Takes took old (Turn actor ∷ []) result new → BeginsStep took w actor old result new
   begins old new (Ok done) are halt taken = subst (λ xs. took old (items_text xs) new) (sym are) taken
-  begins old new (Err halt) are is taken = (is, part_of_one took old new (Turn actor) (subst (λ h. Takes took old (Turn actor ∷ []) (Err h) new) is taken))
+  begins old new (Err halt) are is taken = (is, are, part_of_one took old new (Turn actor) (subst (λ h. Takes took old (Turn actor ∷ []) (Err h) new) is taken))
 
   pub begins_none : (old : K) → ((out : K) → took out [] out) → letter_lines w actor ≡ [] → BeginsStep took w actor old (Ok tt) old
   begins_none old nothing are = subst (λ xs. took old (items_text xs) old) (sym are) (nothing old)

@@ -1,3 +1,4 @@
+mod Begun
 mod Boots
 mod Endings
 mod Letters

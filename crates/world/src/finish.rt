@@ -18,6 +18,7 @@ use io_edge::Sink;
 use join_laws::flushes_lose_power;
 use power_laws::power_and_card_make_events;
 use power_step::{Pending, cut, flush_all};
+use state_laws::state_is_read;
 use storage_model::{End, Halt, Item};
 use trace_print::print;
 use world_state::Path;
@@ -67,6 +68,7 @@ fn end_run<A: Array, K: Sink>(
     ensures failed { result ≡ Err SinkFailed → Rose (K.faults out.old) (K.faults out.new) }
 {
     runs_are_read();
+    state_is_read();
     lines_have_causes();
     runs_end_by_flush();
     power_and_card_make_events();

@@ -17,6 +17,7 @@ use state_laws::state_is_read;
 use step_laws::steps_are_taken;
 use storage_model::{Halt, Item, Letter};
 use trace_print::print;
+use world_steps::runs_are_read;
 
 impl World {
     /// One event of an actor, whoever is next. It uses the due `cut` line where power acts, else the next letter where it is the
@@ -39,6 +40,7 @@ impl World {
     {
         steps_are_taken::<K>();
         state_is_read();
+        runs_are_read();
         self.begin(actor, out)?;
         self.act(actor, array, out)
     }

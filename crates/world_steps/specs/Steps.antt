@@ -1,5 +1,5 @@
 -- What a step of a run prints of a state, and what it leads to.
-use Rattle.std.specs.Prelude.{◌≡◌, ◌⊎◌, List, [], Result, Ok, Err, IfSome}
+use Rattle.std.specs.Prelude.{◌≡◌, List, Result, Ok, Err, IfSome}
 use Rattle.storage_machine.specs.declared.state.Owed.TheVariants.{End as Ended}
 use Rattle.storage_machine.specs.declared.state.State.{State}
 use Rattle.storage_model.specs.declared.ends.Halt.{Halt}
@@ -32,9 +32,8 @@ pub record Begun (w : WorldState) (s : State) (actor : Letter) (lines : List Ite
   pub starts : Starts (with_letter s actor) actor items last
   pub rules : KeepsRules w s actor items
 
--- A step that went well, one whose sink failed (in the letter's line or behind it), and one that ended the run.
+-- A step that went well, one whose sink failed in the last of the lines, and one that ended the run.
 abbrev pub StepTells : WorldState → State → Letter → List Item → Result (Unit {0}) Halt → WorldState → ArrayState → Type 0
 StepTells w s actor lines (Ok done) w' a = (t : State) × Shown w s actor lines t × StandsFor w' a t
-StepTells w s actor lines (Err SinkFailed) w' a =
-    ((lines ≡ []) × IfSome (shown_by a) (IsNear s)) ⊎ ((last : State) × Begun w s actor lines last × IfSome (shown_by a) (IsNear last))
+StepTells w s actor lines (Err SinkFailed) w' a = (last : State) × Begun w s actor lines last × IfSome (shown_by a) (IsNear last)
 StepTells w s actor lines (Err halt) w' a = (t : State) × Shown w s actor lines t × (t.owed ≡ Ended) × IfSome (shown_by a) (IsNear t)

@@ -1,4 +1,4 @@
-use Rattle.std.proofs.Common.{◌≡◌, Some, arith, subst}
+use Rattle.std.proofs.Common.{◌≡◌, Some, arith, inr, refl, subst}
 use Rattle.std.proofs.lemmas.Result.{err_from_is_err_and}
 use Rattle.storage_model.specs.declared.trace.End.TheVariants.{Fault}
 use Rattle.storage_model.specs.declared.trace.Item.TheVariants.{Off}
@@ -17,7 +17,7 @@ returns-in_err-print-in-Err-clause-sector g c =
     let read = is_read c.args.card.now (g.A.Array.state c.args.array.now) c.read.new.self (g.A.Array.state c.read.new.array) e.open e.card e.store e.same e.ends.faults e.turns e.cache in
     let p = err_from_is_err_and c.from_residual.result c.from_residual.ensures.1 in
     rw (p.1, p.2)
-    (sector_broken g.K.Sink.took c.args.sector c.args.card.now (g.A.Array.state c.args.array.now) c.args.out.now c.print-in-Err.new.out c.read.new.block c.read.new.self (g.A.Array.state c.read.new.array) read _ (Off Fault)
+    (sector_broken g.K.Sink.took c.args.sector c.args.card.now (g.A.Array.state c.args.array.now) c.args.out.now c.print-in-Err.new.out c.read.new.block c.read.new.self (g.A.Array.state c.read.new.array) read _ (Off Fault) (record { no_flash = refl; no_cut = refl }) (λ after shown stands below. inr refl)
     c.in_err-print-in-Err.ensures.takes c.in_err-print-in-Err.ensures.halt)
 
 pub returns-in-Ok-clause-sector : goal.returns-in-Ok-clause-sector

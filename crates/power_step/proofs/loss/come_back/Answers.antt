@@ -1,12 +1,10 @@
 use Rattle.std.proofs.lemmas.Result.{err_from_is_err_and}
-use Rattle.io_edge.specs.Sink.{Joins}
 use Rattle.power_step.proofs.Returning.{unlit}
 use Rattle.power_step.proofs.loss.come_back.Goals as goal
 
 pub returns-in_err-print-clause-returns : goal.returns-in_err-print-clause-returns
 returns-in_err-print-clause-returns g c =
-    let both : Joins g.K.Sink.took = record { join = g.met.K.Sink.took_both } in
     let p = err_from_is_err_and c.from_residual-in_err-print.result c.from_residual-in_err-print.ensures.1 in
     rw (p.1, p.2)
-    (unlit g.K.Sink.took c.args.pending.now c.args.out.now c.args.card.now (g.A.Array.state c.args.array.now) both c.open_again.new.out c.print.new.out c.open_again.new.card (g.A.Array.state c.open_again.new.array) _
+    (unlit g.K.Sink.took c.args.pending.now c.args.out.now c.args.card.now (g.A.Array.state c.args.array.now) c.open_again.new.out c.print.new.out c.open_again.new.card (g.A.Array.state c.open_again.new.array) _
     c.in_ok-open_again.ensures.opens c.in_err-print.ensures.takes c.in_err-print.ensures.halt)

@@ -13,7 +13,7 @@ pub returns-in_err-print-clause-loses : goal.returns-in_err-print-clause-loses
 returns-in_err-print-clause-loses g c =
     let p = err_from_is_err_and c.from_residual.result c.from_residual.ensures.1 in
     rw (p.1, p.2)
-    (broke_at_once g.K.Sink.took c.args.path.now c.args.path.now (g.A.Array.state c.args.array.now) c.args.out.now c.print.new.out c.in_err-print.field-0.0 c.in_err-print.ensures.takes c.in_err-print.ensures.halt)
+    (broke_at_once g.K.Sink.took c.args.path.now c.args.path.now (g.A.Array.state c.args.array.now) c.requires.outlasts c.args.out.now c.print.new.out c.in_err-print.field-0.0 c.in_err-print.ensures.takes c.in_err-print.ensures.halt)
 
 pub returns-in_err-print_lost-clause-loses : goal.returns-in_err-print_lost-clause-loses
 returns-in_err-print_lost-clause-loses g c =

@@ -9,7 +9,7 @@ use Rattle.power_step.proofs.lost.print_lost.Goals as goal
 pub returns-in_err-print-clause-lost : goal.returns-in_err-print-clause-lost
 returns-in_err-print-clause-lost g c =
     let p = err_from_is_err_and c.from_residual.result c.from_residual.ensures.1 in
-    rw (p.1, p.2) (c.loop-id.invariant.lost _ _ (lost_broken g.K.Sink.took c.args.driver.now.requests.holders c.loop-id.last c.in-Some.id c.loop-id.out c.print.new.out _ c.in_err-print.ensures.takes c.in_err-print.ensures.halt))
+    rw (p.1, p.2) (c.loop-id.invariant.lost _ _ (lost_broken g.K.Sink.took c.args.driver.now.requests.holders c.loop-id.last c.in-Some.id c.loop-id.out c.print.new.out _ (sym c.next_issued.ensures ∙ c.in-Some.is) c.in_err-print.ensures.takes c.in_err-print.ensures.halt))
 
 pub loop-id-smaller : goal.loop-id-smaller
 loop-id-smaller g c =

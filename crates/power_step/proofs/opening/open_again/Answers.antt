@@ -8,7 +8,7 @@ pub returns-in_err-print_failed-in-Err-clause-opens : goal.returns-in_err-print_
 returns-in_err-print_failed-in-Err-clause-opens g c =
     let both : Joins g.K.Sink.took = record { join = g.met.K.Sink.took_both } in
     let p = err_from_is_err_and c.from_residual.result c.from_residual.ensures.1 in
-    rw (p.1, p.2) (failed_opens g.K.Sink.took both c.args.out.now c.loop-cuts.out c.print_failed.new.out c.loop-cuts.cuts c.args.card.now c.boot.new.self (g.A.Array.state c.args.array.now) (g.A.Array.state c.loop-cuts.array) c.loop-cuts.invariant.taken c.loop-cuts.invariant.kept (omega (arith, c.loop-cuts-test.true)) (g.A.Array.state c.boot.new.array) c.in-Err.ensures.shown c.in-Err.why _ c.in-Err.ensures.ends c.in_err-print_failed-in-Err.ensures.taken c.in_err-print_failed-in-Err.ensures.halt)
+    rw (p.1, p.2) (failed_opens g.K.Sink.took both c.args.out.now c.loop-cuts.out c.print_failed.new.out c.loop-cuts.cuts c.args.card.now c.boot.new.self (g.A.Array.state c.args.array.now) (g.A.Array.state c.loop-cuts.array) c.loop-cuts.invariant.taken c.loop-cuts.invariant.kept (omega (arith, c.loop-cuts-test.true)) (g.A.Array.state c.boot.new.array) c.in-Err.ensures.shown c.in-Err.ensures.image c.in-Err.why _ c.in-Err.ensures.ends c.in_err-print_failed-in-Err.ensures.taken c.in_err-print_failed-in-Err.ensures.halt)
 
 pub returns-in_err-print-clause-opens : goal.returns-in_err-print-clause-opens
 returns-in_err-print-clause-opens g c =

@@ -7,6 +7,7 @@ returns c = record {
   ended = c.events_go_on.ensures.ended;
   stopped_lit = c.events_break_off.ensures.lit;
   stopped_dark = c.events_break_off.ensures.dark;
+  stopped_last = c.events_break_off.ensures.last;
   stopped_at_cut = c.events_break_off.ensures.cut;
   stopped_behind = c.events_break_off.ensures.behind;
   engine_near = c.events_stay_near.ensures.engine;

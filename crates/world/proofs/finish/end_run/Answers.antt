@@ -6,15 +6,15 @@ use Rattle.power_laws.specs.Power.{FlushEvent}
 use Rattle.storage_model.specs.declared.trace.End.TheVariants.{Good, Fault}
 use Rattle.storage_model.specs.declared.trace.Item.TheVariants.{Off}
 use Rattle.world.specs.Runs.{in_order}
-use Rattle.world.proofs.Endings.{again, ends_broken, ends_fault, ends_good, lost_again, lost_halt, not_lost, part_of_halt}
+use Rattle.world.proofs.Endings.{again, ends_fault, ends_good, fault_broken, good_broken, lost_again, lost_halt, not_lost, part_of_halt}
 use Rattle.world.proofs.finish.end_run.Goals as goal
 
 pub returns-in_err-print-in-Ok-clause-finishes : goal.returns-in_err-print-in-Ok-clause-finishes
 returns-in_err-print-in-Ok-clause-finishes g c order =
     let p = err_from_is_err_and c.from_residual.result c.from_residual.ensures.1 in
     rw (p.1, p.2)
-    (ends_broken c.runs_are_read.ensures c.runs_end_by_flush.ensures c.lines_have_causes.ensures.flushes c.lines_have_causes.ensures.joined c.power_and_card_make_events.ensures.flush g.K.Sink.took
-    (in_order c.args.path.now order) (g.A.Array.state c.args.array.now) c.args.out.now c.print.new.out c.requires.ready c.requires.none c.flush_all.new.path (g.A.Array.state c.flush_all.new.array) (Ok tt) _
+    (good_broken c.runs_are_read.ensures c.runs_end_by_flush.ensures c.lines_have_causes.ensures.flushes c.lines_have_causes.ensures.joined c.power_and_card_make_events.ensures.flush g.K.Sink.took
+    (in_order c.args.path.now order) (g.A.Array.state c.args.array.now) c.args.out.now c.print.new.out c.requires.ready c.requires.none c.flush_all.new.path (g.A.Array.state c.flush_all.new.array) c.state_is_read.ensures.laws _
     (in_order c.flush_all.new.path order) c.in-Ok.ensures.event c.in_err-print-in-Ok.ensures.halt
     (part_of_halt g.K.Sink.took c.args.out.now c.print.new.out (Off Good) _ c.in_err-print-in-Ok.ensures.takes c.in_err-print-in-Ok.ensures.halt))
 
@@ -28,8 +28,8 @@ pub returns-in_err-print-in-Err-Flash-clause-finishes : goal.returns-in_err-prin
 returns-in_err-print-in-Err-Flash-clause-finishes g c order =
     let p = err_from_is_err_and c.from_residual-in_err-print-in-Err-Flash.result c.from_residual-in_err-print-in-Err-Flash.ensures.1 in
     rw (p.1, p.2)
-    (ends_broken c.runs_are_read.ensures c.runs_end_by_flush.ensures c.lines_have_causes.ensures.flushes c.lines_have_causes.ensures.joined c.power_and_card_make_events.ensures.flush g.K.Sink.took
-    (in_order c.args.path.now order) (g.A.Array.state c.args.array.now) c.args.out.now c.print-in-Err-Flash.new.out c.requires.ready c.requires.none c.flush_all.new.path (g.A.Array.state c.flush_all.new.array) (Err Flash) _
+    (fault_broken c.runs_are_read.ensures c.runs_end_by_flush.ensures c.lines_have_causes.ensures.flushes c.lines_have_causes.ensures.joined c.power_and_card_make_events.ensures.flush g.K.Sink.took
+    (in_order c.args.path.now order) (g.A.Array.state c.args.array.now) c.args.out.now c.print-in-Err-Flash.new.out c.requires.ready c.requires.none c.flush_all.new.path (g.A.Array.state c.flush_all.new.array) _
     (in_order c.flush_all.new.path order) (subst (λ (e : StoreEnd). FlushEvent c.args.path.now (g.A.Array.state c.args.array.now) c.flush_all.new.path (g.A.Array.state c.flush_all.new.array) (Err e)) c.in-Err-Flash.field-0-is c.in-Err-Flash.ensures.event) c.in_err-print-in-Err-Flash.ensures.halt
     (part_of_halt g.K.Sink.took c.args.out.now c.print-in-Err-Flash.new.out (Off Fault) _ c.in_err-print-in-Err-Flash.ensures.takes c.in_err-print-in-Err-Flash.ensures.halt))
 

@@ -6,7 +6,7 @@ pub returns-in_err-begin-clause-step : goal.returns-in_err-begin-clause-step
 returns-in_err-begin-clause-step g c =
     let p = err_from_is_err_and c.from_residual.result c.from_residual.ensures.1 in
     rw (p.1, p.2)
-    (stopped_first g.K.Sink.took c.state_is_read.ensures.laws c.args.self.now c.begin.new.self c.args.actor (g.A.Array.state c.args.array.now) c.args.out.now c.begin.new.out _ c.in_err-begin.ensures.lines)
+    (stopped_first g.K.Sink.took c.state_is_read.ensures.laws c.runs_are_read.ensures c.args.self.now c.begin.new.self c.args.actor (g.A.Array.state c.args.array.now) c.args.out.now c.begin.new.out _ c.requires.may c.in_err-begin.ensures.lines)
 
 pub returns-clause-step : goal.returns-clause-step
 returns-clause-step g c =
