@@ -1,7 +1,9 @@
+pub mod Answered
 pub mod Beginning
 pub mod Forms
 pub mod Leaving
 pub mod Lines
+pub mod Loading
 pub mod Listed
 pub mod Making
 pub mod Names

@@ -8,35 +8,21 @@ use Rattle.trace_print.specs.Prints.{RoseBy}
 use Rattle.array_edge.specs.Hits.{is_reached, reached_cuts, reached_fails}
 use Rattle.array_edge.specs.Script.{with_more}
 use Rattle.power_step.proofs.Counting.{count_no, count_yes}
-use Rattle.cqmmc_top.specs.Answers.{cutting, failing}
+use Rattle.whole_run.specs.Cuts.{RoseWith}
 
 counted : {X : Type 0} (p : X → Bool) (x : X) (xs : List X) (n m : ℕ) (flag : Bool) → p x ≡ flag → count_by p xs ≤ n → (flag ≡ true → n + 1 ≤ m) → n ≤ m → count_by p (x ∷ xs) ≤ m
 counted p x xs n m true is rest raised kept = let more = count_yes p x xs is in let one = raised refl in omega (arith, more, rest, one)
 counted p x xs n m false is rest raised kept = let same = count_no p x xs is in omega (arith, same, rest, kept)
 
-pub count_short : {X : Type 0} (p : X → Bool) (xs : List X) → count_by p xs ≤ length xs
+count_short : {X : Type 0} (p : X → Bool) (xs : List X) → count_by p xs ≤ length xs
 count_short p [] = omega arith
 count_short p (x ∷ xs) = counted p x xs (length xs) (length (x ∷ xs)) (p x) refl (count_short p xs) (λ is. omega arith) (omega arith)
 
-raised_by : {X : Type 0} (q : X → Bool) (x : X) (xs : List X) (flag : Bool) → q x ≡ flag → (flag ≡ true → count_by q xs + 1 ≤ count_by q (x ∷ xs)) × (count_by q xs ≤ count_by q (x ∷ xs))
-raised_by q x xs true is = let more = count_yes q x xs is in (λ _. omega (arith, more), omega (arith, more))
-raised_by q x xs false is = let same = count_no q x xs is in (λ is. absurd (cc is), omega (arith, same))
+pub fails_short : (programs fetches : ℕ) (hits : List ArrayHit) → reached_fails programs fetches hits ≤ length hits
+fails_short programs fetches hits = count_short (λ hit. is_reached programs fetches hit && not hit.cut) hits
 
-pub count_fewer : {X : Type 0} (p q : X → Bool) (xs : List X) → ((x : X) → p x ≡ true → q x ≡ true) → count_by p xs ≤ count_by q xs
-count_fewer p q [] some = omega arith
-count_fewer p q (x ∷ xs) some =
-    let raised = raised_by q x xs (q x) refl in
-    counted p x xs (count_by q xs) (count_by q (x ∷ xs)) (p x) refl (count_fewer p q xs some) (λ is. raised.0 (some x is)) raised.1
-
-right_of : (a b : Bool) → (a && b) ≡ true → b ≡ true
-right_of true b is = is
-right_of false b is = absurd (cc is)
-
-pub fails_few : (programs fetches : ℕ) (hits : List ArrayHit) → reached_fails programs fetches hits ≤ failing hits
-fails_few programs fetches hits = count_fewer (λ hit. is_reached programs fetches hit && not hit.cut) (λ hit. not hit.cut) hits (λ hit is. right_of (is_reached programs fetches hit) (not hit.cut) is)
-
-pub cuts_few : (programs fetches : ℕ) (hits : List ArrayHit) → reached_cuts programs fetches hits ≤ cutting hits
-cuts_few programs fetches hits = count_fewer (λ hit. is_reached programs fetches hit && hit.cut) (λ hit. hit.cut) hits (λ hit is. right_of (is_reached programs fetches hit) hit.cut is)
+pub cuts_short : (programs fetches : ℕ) (hits : List ArrayHit) → reached_cuts programs fetches hits ≤ length hits
+cuts_short programs fetches hits = count_short (λ hit. is_reached programs fetches hit && hit.cut) hits
 
 -- a count with those of a counter that is far from its end
 stands_still : (n k : ℕ) (stands : Bool) → n ≤ k → k ≤ 4096 → (stands || (n == 2 ^ 64 - 1)) ≡ true → stands ≡ true
@@ -52,3 +38,8 @@ pub rose_either : (n k : ℕ) (old new : Count) → n ≤ k → k ≤ 4096 → R
 rose_either zero k old new few most (inl up) = inl (inl (omega (arith, up)))
 rose_either (suc n) k old new few most (inl up) = inr (omega (arith, few))
 rose_either n k old new few most (inr end) = inl (inr (stands_still n k new.stands few most end))
+
+-- and so with what else may cut the power
+pub rose_with : (m n k more : ℕ) (old new : Count) → n ≤ k → k ≤ 4096 → RoseWith m 0 more (with_more old 0) (with_more new n) → (old.value + m ≤ new.value + (k + more)) ⊎ (new.stands ≡ true)
+rose_with m n k more old new few most (inl up) = inl (omega (arith, up, few))
+rose_with m n k more old new few most (inr end) = inr (stands_still n k new.stands few most end)

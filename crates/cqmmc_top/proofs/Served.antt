@@ -1,30 +1,33 @@
 -- What a run answers, by what it came to.
-use Rattle.std.proofs.Common.{◌≡◌, ◌≤◌, ◌⊎◌, ◌+◌, inl, inr, ℕ, suc, Bool, true, false, List, [], IfSome, None, Option, Some, OnOk, Result, Ok, Err, is_some, ap, refl, sym, subst, arith}
+use Rattle.std.proofs.Common.{◌≡◌, ◌≤◌, ◌⊎◌, ◌+◌, ◌∙◌, ◌++◌, ◌∷◌, inl, inr, ℕ, suc, Bool, true, false, List, [], IfSome, None, Option, Some, OnOk, Result, Ok, Err, is_some, ap, refl, sym, subst, arith}
 use Rattle.std.specs.Option.{IsSomeAnd, option_map}
-use Rattle.std.specs.Prelude.{count_by, is_ok, not}
+use Rattle.std.specs.Prelude.{count_by, is_ok, length, not}
 use Rattle.io_edge.specs.Sink.{Joins, TookPart}
 use Rattle.storage_machine.specs.declared.state.State.{State}
 use Rattle.storage_model.specs.Count.{Count, Later, Rose, count_of}
 use Rattle.storage_model.specs.declared.block.Block.{Block}
 use Rattle.storage_model.specs.declared.ends.Halt.{Halt}
 use Rattle.storage_model.specs.declared.ends.Halt.TheVariants.{SinkFailed, OpenFault, PowerGone, BadImage as BadPages}
-use Rattle.storage_model.specs.declared.faults.ArrayHit.{ArrayHit}
 use Rattle.storage_model.specs.declared.faults.Faults.{Faults}
 use Rattle.storage_model.specs.declared.plan.Plan.{Plan}
 use Rattle.storage_model.specs.declared.trace.End.{End}
 use Rattle.storage_model.specs.declared.trace.End.TheVariants.{Good, Fault, Dead, Image}
 use Rattle.storage_model.specs.declared.trace.Item.{Item}
 use Rattle.storage_order.specs.Accept.{accept}
-use Rattle.run_laws.specs.Whole.{Begun, Front, IsAccepted, IsWholeFrontTaken, IsWholeTaken, Whole}
-use Rattle.trace_print.specs.Prints.{RoseBy, halt_faults, is_flash}
+use Rattle.run_laws.specs.Whole.{Begun, Finishes, Front, IsAccepted, IsWholeFrontTaken, IsWholeTaken, Whole, card_line, off_lines, opened}
+use Rattle.storage_runs.specs.Laws.{joined}
+use Rattle.trace_print.specs.Prints.{RoseBy, halt_faults, is_cut_line, is_flash}
+use Rattle.answer_laws.specs.Answers.{IsAnswered}
 use Rattle.array_edge.specs.Array.{ArrayState}
-use Rattle.array_edge.specs.Script.{IsWithinHits, with_more}
+use Rattle.array_edge.specs.Hits.{reached_cuts, reached_fails}
+use Rattle.array_edge.specs.Script.{HasRun, IsWithinHits, with_more}
 use Rattle.intent_store.specs.Intent.{ShowsImage, shown_by}
 use Rattle.power_step.proofs.Counting.{later_both}
 use Rattle.power_step.specs.Loses.{EndsBy}
 use Rattle.power_step.specs.Wrote.{Wrote}
-use Rattle.raw_face.proofs.Standing.{open_image}
+use Rattle.step_laws.specs.Steps.{NeedsCut}
 use Rattle.whole_run.specs.Course.{BreaksNear}
+use Rattle.whole_run.specs.Cuts.{RoseWith, is_power}
 use Rattle.whole_run.specs.Whole.{Breaks, RunTells, Runs, halt_in}
 use Rattle.whole_run.specs.declared.run.Stop.{Stop}
 use Rattle.whole_run.specs.declared.run.Stop.TheVariants.{Before, Behind}
@@ -32,16 +35,17 @@ use Rattle.world_state.specs.Path.{PathState}
 use Rattle.world_state.specs.Stands.{IsNear, Stands}
 use Rattle.cut_order.specs.Order.{OrderState}
 use Rattle.world_steps.specs.World.{WorldState}
-use Rattle.cqmmc_top.specs.Answers.{OpeningFailed, by_opening, cutting, failing}
+use Rattle.cqmmc_top.specs.Answers.{HasCalls, OpeningFailed, by_opening, fail_lines, program_cuts}
 use Rattle.cqmmc_top.specs.Command.{RunAnswers}
 use Rattle.cqmmc_top.specs.Concludes.{Concludes}
 use Rattle.cqmmc_top.specs.Print.{run_status}
 use Rattle.cqmmc_top.specs.Refusal.{Says, refusal_text, status_of}
-use Rattle.cqmmc_top.specs.Run.{AreFaultsExplained, EndedBySink, EndedEarly, EndedSo, EndedWell}
+use Rattle.cqmmc_top.specs.Run.{AreCutsExplained, AreFaultsExplained, EndedBySink, EndedEarly, EndedSo, EndedWell, HasAnswers, IsUndisturbed}
 use Rattle.cqmmc_top.specs.Texts.{AreFaultsOf, IsPlanOf}
 use Rattle.cqmmc_top.specs.declared.refusal.Refusal.{Refusal}
 use Rattle.cqmmc_top.specs.declared.refusal.Refusal.TheVariants.{BadImage, ArrayFault, NoPower}
-use Rattle.cqmmc_top.proofs.Lines.{count_short, cuts_few, fails_few, rose_either, rose_parts}
+use Rattle.cqmmc_top.proofs.Answered.{has_answers}
+use Rattle.cqmmc_top.proofs.Lines.{cuts_short, fails_short, rose_either, rose_parts, rose_with}
 
 -- ---- the array of a run: the one that was handed in, with what its fault text adds
 
@@ -80,25 +84,42 @@ shown_as f (Some x) y some is = ap Some is
 
 -- ---- the trace
 
-begun_by : (s : State) (first : List Item) (a : ArrayState) → BreaksNear s first a → Begun s first
-begun_by s first a (inl none) = inl none.0
-begun_by s first a (inr (inl opens)) = inr (inl (opens.0, opens.1))
-begun_by s first a (inr (inr drops)) = inr (inr drops.0)
-
 module _ (base : List Block) (plan : Plan) (faults : Faults) (lines : List Item) (b : ArrayState) (world : Option WorldState) (taken : (t : State) → Whole base plan faults lines t → accept base plan faults lines ≡ Ok t)
     (front : (lines ≡ []) ⊎ Front base plan faults lines → IsAccepted base plan faults lines) where
-  ended_early : (end : End) → EndsBy end lines → (t : State) × Whole base plan faults lines t × IfSome (shown_by b) (IsNear t) → EndedEarly end base plan faults lines b
+  pub ended_early : (end : End) → EndsBy end lines → (t : State) × Whole base plan faults lines t × IfSome (shown_by b) (IsNear t) → EndedEarly end base plan faults lines b
   ended_early end last told = record { state = told.0; accepted = taken told.0 told.1; last = last; near = told.2 }
 
+  -- the sink failed in a line of a part, in the end's line, or in the first one
+  front_taken : (breaks : Breaks base plan faults lines b) → Begun breaks.last breaks.first → IsAccepted base plan faults lines
+  front_taken breaks begun = front (inr (record { parts = breaks.parts; last = breaks.last; first = breaks.first; printed = breaks.printed; course = breaks.course; begun = begun }))
+
+  whole_taken : (breaks : Breaks base plan faults lines b) (end : End) (t : State) → breaks.first ≡ off_lines (Some end) → Finishes breaks.last (Some end) t → IsAccepted base plan faults lines
+  whole_taken breaks end t off finishes = (
+    t,
+    taken t (record {
+      parts = breaks.parts;
+      last = breaks.last;
+      end = Some end;
+      printed = breaks.printed ∙ ap (λ xs. card_line base plan ∷ (joined breaks.parts ++ xs)) off;
+      course = breaks.course;
+      finishes = finishes;
+    }),
+  )
+
+  broken_taken : (breaks : Breaks base plan faults lines b) → BreaksNear breaks.last breaks.first b → IsAccepted base plan faults lines
+  broken_taken breaks (inl opens) = front_taken breaks (inr (inl (opens.0, opens.1)))
+  broken_taken breaks (inr (inl drops)) = front_taken breaks (inr (inr drops.0))
+  broken_taken breaks (inr (inr (end, t, off, finishes, near))) = whole_taken breaks end t off finishes
+
   ended_broken : Breaks base plan faults lines b → EndedBySink base plan faults lines b
-  ended_broken breaks =
-      let it = front (inr (record { parts = breaks.parts; last = breaks.last; first = breaks.first; printed = breaks.printed; course = breaks.course; begun = begun_by breaks.last breaks.first b breaks.breaks })) in
-      record { state = it.0; accepted = it.1; near = inr breaks }
+  ended_broken breaks = let it = broken_taken breaks breaks.breaks in record { state = it.0; accepted = it.1; near = inr breaks }
 
-  ended_at_once : lines ≡ [] → shown_by b ≡ Some base → EndedBySink base plan faults lines b
-  ended_at_once none shown = let it = front (inl none) in record { state = it.0; accepted = it.1; near = inl (none, shown) }
+  ended_at_once : lines ≡ card_line base plan ∷ [] → shown_by b ≡ Some base → EndedBySink base plan faults lines b
+  ended_at_once first shown =
+      let it = front (inr (record { parts = []; last = opened base plan faults; first = []; printed = first; course = refl; begun = inl refl })) in
+      record { state = it.0; accepted = it.1; near = inl (first, shown) }
 
-  ended_well : (w : WorldState) → world ≡ Some w → (t : State) × Whole base plan faults lines t × EndsBy Good lines × IfSome (shown_by b) (λ pages. pages ≡ t.base) × Stands w.path w.order b t → EndedWell base plan faults lines world b
+  pub ended_well : (w : WorldState) → world ≡ Some w → (t : State) × Whole base plan faults lines t × EndsBy Good lines × IfSome (shown_by b) (λ pages. pages ≡ t.base) × Stands w.path w.order b t → EndedWell base plan faults lines world b
   ended_well w is told = record {
     state = told.0;
     accepted = taken told.0 told.1;
@@ -106,6 +127,49 @@ module _ (base : List Block) (plan : Plan) (faults : Faults) (lines : List Item)
     shown = shown_as _ b.told told.0.base told.4.agrees.told told.3;
     stands = subst (λ world. IsSomeAnd world (λ w. Stands w.path w.order b told.0)) (sym is) told.4;
   }
+
+-- ---- where nothing fails and no power is lost
+
+module _ (faults : Faults) (old new : ArrayState) (calls : HasCalls faults old new) (lines : List Item) (is : IsUndisturbed faults old new) where
+  no_fault : AreFaultsExplained faults old new calls lines (Err OpenFault) → ⊥
+  no_fault (inl low) =
+      let none : fail_lines faults old new calls ≡ 0 = ap (reached_fails calls.programs calls.fetches) is.calls in
+      let still = is.fails.0 in
+      omega (arith, low, none, still)
+  no_fault (inr end) = cc (end, is.fails.1)
+
+  no_cut : 1 ≤ count_by is_cut_line lines → AreCutsExplained faults old new calls lines → ⊥
+  no_cut some (inl low) =
+      let none : program_cuts faults old new calls ≡ 0 = ap (reached_cuts calls.programs calls.fetches) is.calls in
+      let unasked : length faults.cuts ≡ 0 = ap (λ (xs : List ℕ). length xs) is.cuts in
+      let still = is.loses.0 in
+      let letters = is.letters in
+      omega (arith, low, none, unasked, letters, still, some)
+  no_cut some (inr end) = cc (end, is.loses.1)
+
+  no_flash : (result : Result (Unit {0}) Halt) → AreFaultsExplained faults old new calls lines result → count_by is_flash lines ≡ 0
+  no_flash result (inl low) =
+      let none : fail_lines faults old new calls ≡ 0 = ap (reached_fails calls.programs calls.fetches) is.calls in
+      let still = is.fails.0 in
+      omega (arith, low, none, still)
+  no_flash result (inr end) = absurd (cc (end, is.fails.1))
+
+  no_cuts : AreCutsExplained faults old new calls lines → count_by is_cut_line lines ≡ 0
+  no_cuts (inl low) =
+      let none : program_cuts faults old new calls ≡ 0 = ap (reached_cuts calls.programs calls.fetches) is.calls in
+      let unasked : length faults.cuts ≡ 0 = ap (λ (xs : List ℕ). length xs) is.cuts in
+      let still = is.loses.0 in
+      let letters = is.letters in
+      omega (arith, low, none, unasked, letters, still)
+  no_cuts (inr end) = absurd (cc (end, is.loses.1))
+
+  undisturbed : (result : Result (Unit {0}) Halt) → AreFaultsExplained faults old new calls lines result → AreCutsExplained faults old new calls lines → (NeedsCut result → 1 ≤ count_by is_cut_line lines)
+      → (result ≡ Ok tt) ⊎ (result ≡ Err SinkFailed)
+  undisturbed (Ok done) flash cuts dark = inl refl
+  undisturbed (Err SinkFailed) flash cuts dark = inr refl
+  undisturbed (Err OpenFault) flash cuts dark = absurd (no_fault flash)
+  undisturbed (Err PowerGone) flash cuts dark = absurd (no_cut (dark tt) cuts)
+  undisturbed (Err BadPages) flash cuts dark = absurd (no_cut (dark tt) cuts)
 
 -- ---- a refusal behind no line
 
@@ -129,31 +193,35 @@ says_behind {K} took both faults_of refusal old mid new status none later says =
 module _ {K : Type 0} (took : K → List ℕ → K → Type 0) (both : Joins took) (faults_of : K → Count)
     (whole : (base : List Block) (plan : Plan) (faults : Faults) (lines : List Item) (t : State) → IsWholeTaken base plan faults lines t)
     (front : (base : List Block) (plan : Plan) (faults : Faults) (lines : List Item) → IsWholeFrontTaken base plan faults lines)
+    (answered : (base : List Block) (plan : Plan) (faults : Faults) (lines : List Item) (id : ℕ) → IsAnswered base plan faults lines id)
     (requests fault_text : Option (List ℕ)) (first first' second second' : Count) (plan : Plan) (faults : Faults) (means : IsPlanOf requests plan) (meant : AreFaultsOf fault_text faults)
-    (a b : ArrayState) (powered : Bool) (made cut programs fetches : ℕ) (within : IsWithinHits faults.array made cut programs fetches)
+    (a b : ArrayState) (powered : Bool) (made cut programs fetches : ℕ) (within : IsWithinHits faults.array made cut programs fetches) (ran : HasRun a b faults.array programs fetches)
     (old mid new : K) (later : Later (faults_of old) (faults_of mid)) (w : WorldState) (status : ℕ) (world : Option WorldState)
     (some : status ≡ 0 → world ≡ Some w) (none : (status ≡ 0 → ⊥) → world ≡ None) where
   abbrev after : ArrayState
   after = worked b powered made cut programs fetches
 
-  made_few : made ≤ failing faults.array
-  made_few = let few = fails_few programs fetches faults.array in let made = within.faults_made in omega (arith, few, made)
+  abbrev calls : HasCalls faults a b
+  calls = record { programs = programs; fetches = fetches; made = ran }
 
-  fails_most : failing faults.array ≤ 4096
-  fails_most = let short = count_short (λ (hit : ArrayHit). not hit.cut) faults.array in let few = meant.few in omega (arith, short, few)
+  abbrev failed_calls : ℕ
+  failed_calls = reached_fails programs fetches faults.array
 
-  cut_few : cut ≤ cutting faults.array
-  cut_few = let few = cuts_few programs fetches faults.array in let made = within.cuts_made in omega (arith, few, made)
+  abbrev cut_calls : ℕ
+  cut_calls = reached_cuts programs fetches faults.array
 
-  cuts_most : cutting faults.array ≤ 4096
-  cuts_most = let short = count_short (λ (hit : ArrayHit). hit.cut) faults.array in let few = meant.few in omega (arith, short, few)
+  fails_most : failed_calls ≤ 4096
+  fails_most = let short = fails_short programs fetches faults.array in let few = meant.few in omega (arith, short, few)
+
+  cuts_most : cut_calls ≤ 4096
+  cuts_most = let short = cuts_short programs fetches faults.array in let few = meant.few in omega (arith, short, few)
 
   -- the image wasn't opened
-  refused : (halt : Halt) (refusal : Refusal) → Runs took plan faults (started a) old (Err (Before halt)) w after mid → took old [] mid → OpeningFailed faults.array a b refusal → (status ≡ 0 → ⊥)
+  refused : (halt : Halt) (refusal : Refusal) → Runs took plan faults (started a) old (Err (Before halt)) w after mid → took old [] mid → OpeningFailed faults a b calls refusal → (status ≡ 0 → ⊥)
       → Says took faults_of refusal mid status new → RunAnswers took faults_of requests first first' fault_text second second' a b old status world new
   refused halt refusal runs nothing failed above says = inl (record {
     refusal = refusal;
-    cause = by_opening means meant failed;
+    cause = by_opening means meant calls failed;
     says = says_behind took both faults_of refusal old mid new status nothing later says;
     shown = shown;
     kept = runs.before.2;
@@ -165,10 +233,10 @@ module _ {K : Type 0} (took : K → List ℕ → K → Type 0) (both : Joins too
 
   -- it was served
   served : (result : Result (Unit {0}) Halt) (lines : List Item) → status ≡ run_status result → Wrote took old lines result new → ShowsImage a
-      → ((base : List Block) → shown_by a ≡ Some base → EndedSo base plan faults lines result world b) → OnOk result (b.settled ≡ true) → OnOk result (ShowsImage b) → is_some world ≡ is_ok result
-      → AreFaultsExplained faults a b lines result → Later (faults_of old) (faults_of new) → (result ≡ Err SinkFailed → Rose (faults_of old) (faults_of new))
+      → ((base : List Block) → shown_by a ≡ Some base → EndedSo base plan faults lines result world b) → OnOk result (b.settled ≡ true) → ShowsImage b → is_some world ≡ is_ok result
+      → AreFaultsExplained faults a b calls lines result → AreCutsExplained faults a b calls lines → (NeedsCut result → 1 ≤ count_by is_cut_line lines) → Later (faults_of old) (faults_of new) → (result ≡ Err SinkFailed → Rose (faults_of old) (faults_of new))
       → RunAnswers took faults_of requests first first' fault_text second second' a b old status world new
-  served result lines is wrote image ended settled kept handed flash sink failed = inr (record {
+  served result lines is wrote image ended settled kept handed flash cuts dark sink failed = inr (record {
     plan = plan;
     faults = faults;
     requests_mean = means;
@@ -182,10 +250,17 @@ module _ {K : Type 0} (took : K → List ℕ → K → Type 0) (both : Joins too
     settled = settled;
     kept = kept;
     handed = handed;
+    calls = calls;
     flash = flash;
+    cuts = cuts;
+    completes = λ is. undisturbed faults a b calls lines is result flash cuts dark;
+    answered = λ is good base shown. answers_in base (subst (λ r. EndedSo base plan faults lines r world b) good (ended base shown)) (no_flash faults a b calls lines is result flash) (no_cuts faults a b calls lines is cuts);
     sink = sink;
     sink_failed = failed;
   })
+    where
+      answers_in : (base : List Block) → EndedWell base plan faults lines world b → count_by is_flash lines ≡ 0 → count_by is_cut_line lines ≡ 0 → HasAnswers base plan lines
+      answers_in base well none uncut = has_answers answered base plan faults lines well.state well.accepted well.last none uncut
 
   -- what was written stays where nothing more is
   stayed : (lines : List Item) (result : Result (Unit {0}) Halt) → new ≡ mid → Wrote took old lines result mid → Wrote took old lines result new
@@ -203,8 +278,11 @@ module _ {K : Type 0} (took : K → List ℕ → K → Type 0) (both : Joins too
   not_given : (status ≡ 0 → ⊥) → is_some world ≡ false
   not_given above = ap (λ (x : Option WorldState). is_some x) (none above)
 
-  explained : (lines : List Item) (result : Result (Unit {0}) Halt) → RoseBy (count_by is_flash lines + halt_faults result) (with_more a.faults 0) (with_more b.faults made) → AreFaultsExplained faults a b lines result
-  explained lines result rose = rose_parts (count_by is_flash lines + halt_faults result) made (failing faults.array) a.faults b.faults made_few fails_most rose
+  explained : (lines : List Item) (result : Result (Unit {0}) Halt) → RoseBy (count_by is_flash lines + halt_faults result) (with_more a.faults 0) (with_more b.faults made) → AreFaultsExplained faults a b calls lines result
+  explained lines result rose = rose_parts (count_by is_flash lines + halt_faults result) made failed_calls a.faults b.faults within.faults_made fails_most rose
+
+  cut_so : (lines : List Item) → RoseWith (count_by is_cut_line lines) 0 (length faults.cuts + count_by is_power faults.turns) (with_more a.cuts 0) (with_more b.cuts cut) → AreCutsExplained faults a b calls lines
+  cut_so lines rose = rose_with (count_by is_cut_line lines) cut cut_calls (length faults.cuts + count_by is_power faults.turns) a.cuts b.cuts within.cuts_made cuts_most rose
 
   -- status 5 and above hand no run back
   no_world : (number : ℕ) → status ≡ suc number → status ≡ 0 → ⊥
@@ -220,35 +298,35 @@ module _ {K : Type 0} (took : K → List ℕ → K → Type 0) (both : Joins too
   answers (Ok done) runs (is, same) failed =
       served (Ok tt) runs.lines is (stayed runs.lines (Ok tt) same runs.wrote) runs.before
       (λ base shown. ended_well base plan faults runs.lines b world (λ t it. whole base plan faults runs.lines t means.valid it) (λ it. front base plan faults runs.lines means.valid it) w (some is) (well (runs.tells base shown))) (runs.settled refl)
-      (open_image w.path.card.store after (runs.is_open refl)) (given is) (explained runs.lines (Ok tt) runs.flash) (later_on same) (λ is. absurd (cc is))
+      (runs.image runs.before) (given is) (explained runs.lines (Ok tt) runs.flash) (cut_so runs.lines runs.cuts) (λ none. absurd none) (later_on same) (λ is. absurd (cc is))
     where
       well : {base : List Block} → RunTells base plan faults runs.lines (Ok tt) w after → (t : State) × Whole base plan faults runs.lines t × EndsBy Good runs.lines × IfSome (shown_by b) (λ pages. pages ≡ t.base) × Stands w.path w.order b t
       well told = (told.0, told.1, told.2, told.3, stands_over w.path w.order told.0 b powered made cut programs fetches told.4)
   answers (Err (Before SinkFailed)) runs (is, same) failed =
       served (Err SinkFailed) runs.lines is (stayed runs.lines (Err SinkFailed) same runs.wrote) runs.before.1
-      (λ base shown. ended_at_once base plan faults runs.lines b world (λ t it. whole base plan faults runs.lines t means.valid it) (λ it. front base plan faults runs.lines means.valid it) runs.before.0 (runs.tells base shown)) tt tt (not_given (no_world 4 is))
-      (explained runs.lines (Err SinkFailed) runs.flash) (later_on same) (λ _. rose_on same (failed refl))
+      (λ base shown. ended_at_once base plan faults runs.lines b world (λ t it. whole base plan faults runs.lines t means.valid it) (λ it. front base plan faults runs.lines means.valid it) (runs.tells base shown).0 (runs.tells base shown).1) tt (runs.image runs.before.1) (not_given (no_world 4 is))
+      (explained runs.lines (Err SinkFailed) runs.flash) (cut_so runs.lines runs.cuts) (λ none. absurd none) (later_on same) (λ _. rose_on same (failed refl))
   answers (Err (Before OpenFault)) runs says failed =
       refused OpenFault ArrayFault runs (subst (λ lines. Wrote took old lines (Err OpenFault) mid) runs.before.0 runs.wrote)
-      (rose_either made (failing faults.array) a.faults b.faults made_few fails_most runs.before.1) (said_not ArrayFault 6 refl says.said) says
+      (rose_either made failed_calls a.faults b.faults within.faults_made fails_most runs.before.1) (said_not ArrayFault 6 refl says.said) says
   answers (Err (Before PowerGone)) runs says failed =
       refused PowerGone NoPower runs (subst (λ lines. Wrote took old lines (Err PowerGone) mid) runs.before.0 runs.wrote)
-      (rose_parts 8 cut (cutting faults.array) a.cuts b.cuts cut_few cuts_most runs.before.1) (said_not NoPower 7 refl says.said) says
+      (rose_parts 8 cut cut_calls a.cuts b.cuts within.cuts_made cuts_most runs.before.1) (said_not NoPower 7 refl says.said) says
   answers (Err (Before BadPages)) runs says failed =
       refused BadPages BadImage runs (subst (λ lines. Wrote took old lines (Err BadPages) mid) runs.before.0 runs.wrote) runs.before.1 (said_not BadImage 5 refl says.said) says
   answers (Err (Behind SinkFailed)) runs (is, same) failed =
       served (Err SinkFailed) runs.lines is (stayed runs.lines (Err SinkFailed) same runs.wrote) runs.before
       (λ base shown. ended_broken base plan faults runs.lines b world (λ t it. whole base plan faults runs.lines t means.valid it) (λ it. front base plan faults runs.lines means.valid it)
-      (breaks_over base plan faults runs.lines b powered made cut programs fetches (runs.tells base shown))) tt tt (not_given (no_world 4 is)) (explained runs.lines (Err SinkFailed) runs.flash) (later_on same) (λ _. rose_on same (failed refl))
+      (breaks_over base plan faults runs.lines b powered made cut programs fetches (runs.tells base shown))) tt (runs.image runs.before) (not_given (no_world 4 is)) (explained runs.lines (Err SinkFailed) runs.flash) (cut_so runs.lines runs.cuts) (λ none. absurd none) (later_on same) (λ _. rose_on same (failed refl))
   answers (Err (Behind OpenFault)) runs (is, same) failed =
       served (Err OpenFault) runs.lines is (stayed runs.lines (Err OpenFault) same runs.wrote) runs.before
-      (λ base shown. ended_early base plan faults runs.lines b world (λ t it. whole base plan faults runs.lines t means.valid it) (λ it. front base plan faults runs.lines means.valid it) Fault runs.ends (runs.tells base shown)) tt tt (not_given (no_world 6 is))
-      (explained runs.lines (Err OpenFault) runs.flash) (later_on same) (λ is. absurd (cc is))
+      (λ base shown. ended_early base plan faults runs.lines b world (λ t it. whole base plan faults runs.lines t means.valid it) (λ it. front base plan faults runs.lines means.valid it) Fault runs.ends.0 (runs.tells base shown)) tt (runs.image runs.before) (not_given (no_world 6 is))
+      (explained runs.lines (Err OpenFault) runs.flash) (cut_so runs.lines runs.cuts) runs.ends.1 (later_on same) (λ is. absurd (cc is))
   answers (Err (Behind PowerGone)) runs (is, same) failed =
       served (Err PowerGone) runs.lines is (stayed runs.lines (Err PowerGone) same runs.wrote) runs.before
-      (λ base shown. ended_early base plan faults runs.lines b world (λ t it. whole base plan faults runs.lines t means.valid it) (λ it. front base plan faults runs.lines means.valid it) Dead runs.ends (runs.tells base shown)) tt tt (not_given (no_world 7 is))
-      (explained runs.lines (Err PowerGone) runs.flash) (later_on same) (λ is. absurd (cc is))
+      (λ base shown. ended_early base plan faults runs.lines b world (λ t it. whole base plan faults runs.lines t means.valid it) (λ it. front base plan faults runs.lines means.valid it) Dead runs.ends.0 (runs.tells base shown)) tt (runs.image runs.before) (not_given (no_world 7 is))
+      (explained runs.lines (Err PowerGone) runs.flash) (cut_so runs.lines runs.cuts) runs.ends.1 (later_on same) (λ is. absurd (cc is))
   answers (Err (Behind BadPages)) runs (is, same) failed =
       served (Err BadPages) runs.lines is (stayed runs.lines (Err BadPages) same runs.wrote) runs.before
-      (λ base shown. ended_early base plan faults runs.lines b world (λ t it. whole base plan faults runs.lines t means.valid it) (λ it. front base plan faults runs.lines means.valid it) Image runs.ends (runs.tells base shown)) tt tt (not_given (no_world 5 is))
-      (explained runs.lines (Err BadPages) runs.flash) (later_on same) (λ is. absurd (cc is))
+      (λ base shown. ended_early base plan faults runs.lines b world (λ t it. whole base plan faults runs.lines t means.valid it) (λ it. front base plan faults runs.lines means.valid it) Image runs.ends.0 (runs.tells base shown)) tt (runs.image runs.before) (not_given (no_world 5 is))
+      (explained runs.lines (Err BadPages) runs.flash) (cut_so runs.lines runs.cuts) runs.ends.1 (later_on same) (λ is. absurd (cc is))

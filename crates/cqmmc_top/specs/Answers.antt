@@ -1,10 +1,11 @@
 -- Why a run is refused, and what it begins with.
-use Rattle.std.specs.Prelude.{◌≡◌, ◌⊎◌, ◌≤◌, ℕ, ◌+◌, List, Option, true, count_by, not}
+use Rattle.std.specs.Prelude.{◌≡◌, ◌⊎◌, ◌≤◌, ℕ, ◌+◌, List, Option, true}
 use Rattle.storage_model.specs.Count.{Count, Rose}
-use Rattle.storage_model.specs.declared.faults.ArrayHit.{ArrayHit}
 use Rattle.storage_model.specs.declared.faults.Faults.{Faults}
 use Rattle.storage_model.specs.declared.plan.Plan.{Plan}
 use Rattle.array_edge.specs.Array.{ArrayState}
+use Rattle.array_edge.specs.Hits.{reached_cuts, reached_fails}
+use Rattle.array_edge.specs.Script.{HasRun}
 use Rattle.end_laws.specs.Ends.{IsFresh}
 use Rattle.intent_store.specs.Intent.{IsNoImage}
 use Rattle.cqmmc_top.specs.declared.prepare.Ready.{Ready}
@@ -18,24 +19,30 @@ pub data IsUnready (requests : Option (List ℕ)) (first first' : Count) (fault_
   by_faults : {refusal : Refusal} {plan : Plan} → IsPlanOf requests plan → FaultsRefused fault_text second second' refusal → IsUnready requests first first' fault_text second second' refusal
   by_memory : {plan : Plan} {faults : Faults} → IsPlanOf requests plan → AreFaultsOf fault_text faults → IsUnready requests first first' fault_text second second' NoMemory
 
--- how many lines of a fault text make a call of the array fail, and how many cut the power within one
-abbrev pub failing : List ArrayHit → ℕ
-failing hits = count_by (λ hit. not hit.cut) hits
+-- The calls of the array that a run made, by how far its counts rose, and which lines of the fault text number one of them: those at which the call
+-- fails, and those within which the power is cut.
+pub record HasCalls (faults : Faults) (old new : ArrayState) : Type 0 where
+  pub programs : ℕ
+  pub fetches : ℕ
+  pub made : HasRun old new faults.array programs fetches
 
-abbrev pub cutting : List ArrayHit → ℕ
-cutting hits = count_by (λ hit. hit.cut) hits
+abbrev pub fail_lines : (faults : Faults) (old new : ArrayState) → HasCalls faults old new → ℕ
+fail_lines faults old new calls = reached_fails calls.programs calls.fetches faults.array
+
+abbrev pub program_cuts : (faults : Faults) (old new : ArrayState) → HasCalls faults old new → ℕ
+program_cuts faults old new calls = reached_cuts calls.programs calls.fetches faults.array
 
 -- why the image isn't opened: its pages are none, the array or a line of the fault text made a call fail, or both cut eight openings in a row
-abbrev pub OpeningFailed : List ArrayHit → ArrayState → ArrayState → Refusal → Type 0
-OpeningFailed hits old new BadImage = IsNoImage old
-OpeningFailed hits old new ArrayFault = Rose old.faults new.faults ⊎ (1 ≤ failing hits)
-OpeningFailed hits old new NoPower = (old.cuts.value + 8 ≤ new.cuts.value + cutting hits) ⊎ (new.cuts.stands ≡ true)
-OpeningFailed hits old new _ = ⊥
+abbrev pub OpeningFailed : (faults : Faults) (old new : ArrayState) → HasCalls faults old new → Refusal → Type 0
+OpeningFailed faults old new calls BadImage = IsNoImage old
+OpeningFailed faults old new calls ArrayFault = Rose old.faults new.faults ⊎ (1 ≤ fail_lines faults old new calls)
+OpeningFailed faults old new calls NoPower = (old.cuts.value + 8 ≤ new.cuts.value + program_cuts faults old new calls) ⊎ (new.cuts.stands ≡ true)
+OpeningFailed faults old new calls _ = ⊥
 
 -- A refused text touches no page. Behind the texts only the opening refuses a run.
 pub data IsRunRefused (requests : Option (List ℕ)) (first first' : Count) (fault_text : Option (List ℕ)) (second second' : Count) (old new : ArrayState) : Refusal → Type 0 where
   unready : {refusal : Refusal} → IsUnready requests first first' fault_text second second' refusal → new ≡ old → IsRunRefused requests first first' fault_text second second' old new refusal
-  by_opening : {refusal : Refusal} {plan : Plan} {faults : Faults} → IsPlanOf requests plan → AreFaultsOf fault_text faults → OpeningFailed faults.array old new refusal
+  by_opening : {refusal : Refusal} {plan : Plan} {faults : Faults} → IsPlanOf requests plan → AreFaultsOf fault_text faults → (calls : HasCalls faults old new) → OpeningFailed faults old new calls refusal
       → IsRunRefused requests first first' fault_text second second' old new refusal
 
 -- a run of what the texts mean, before its first line

@@ -1,16 +1,17 @@
 -- What a command answers: its status, what it wrote, and what the image shows then.
-use Rattle.std.specs.Prelude.{◌≡◌, ◌⊎◌, ℕ, ◌+◌, ◌≤◌, List, [], ◌∷◌, ◌++◌, decimal, Option, IfSome, codes, Some, None, Bool, true, false}
+use Rattle.std.specs.Prelude.{◌≡◌, ◌⊎◌, ℕ, ◌+◌, ◌^◌, ◌<◌, ◌≤◌, List, [], ◌∷◌, ◌++◌, decimal, Option, IfSome, codes, Some, None, Bool, true, false}
 use Rattle.storage_model.specs.Count.{Count, Rose}
 use Rattle.array_edge.specs.Array.{ArrayState}
 use Rattle.io_edge.specs.Sink.{TookPart}
 use Rattle.intent_store.specs.Intent.{ShowsImage, shown_by}
 use Rattle.cqmmc_top.specs.declared.command.Command.{Command}
-use Rattle.cqmmc_top.specs.declared.command.Command.TheVariants.{Run, ExtCsd, New, Raw}
+use Rattle.cqmmc_top.specs.declared.command.Command.TheVariants.{Run, ExtCsd, New, Raw, Load}
 use Rattle.cqmmc_top.specs.declared.refusal.Refusal.{Refusal}
 use Rattle.cqmmc_top.specs.declared.refusal.Refusal.TheVariants.{Usage}
 use Rattle.cqmmc_top.specs.Answers.{IsRunRefused}
 use Rattle.cqmmc_top.specs.Opened.{HasSectors, OpeningRefused}
 use Rattle.cqmmc_top.specs.Listing.{csd_text}
+use Rattle.cqmmc_top.specs.Load.{LoadAnswers}
 use Rattle.cqmmc_top.specs.Made.{IsLeft, IsZeroImage, MakingRefused}
 use Rattle.ext_csd.specs.Values.{fresh}
 use Rattle.cqmmc_top.specs.Raw.{RawAnswers}
@@ -43,12 +44,19 @@ pub record IsRaw (words : List (List ℕ)) : Type 0 where
   pub script : List ℕ
   pub are : words ≡ codes "raw" ∷ image ∷ script ∷ []
 
+-- `load IMAGE N`, the number in decimal without leading zeros
+pub record IsLoad (n : ℕ) (words : List (List ℕ)) : Type 0 where
+  pub image : List ℕ
+  pub are : words ≡ codes "load" ∷ image ∷ decimal n ∷ []
+  pub most : n < 2 ^ 32
+
 -- the words call the command
 abbrev pub IsCommand : Command → List (List ℕ) → Type 0
 IsCommand Run words = IsRun words
 IsCommand ExtCsd words = IsExtCsd words
 IsCommand (New sectors) words = IsNew sectors words
 IsCommand Raw words = IsRaw words
+IsCommand (Load n) words = IsLoad n words
 
 -- `run` and `raw` read a first text, and `run` a second one
 abbrev pub reads_first : Option Command → Bool
@@ -59,6 +67,12 @@ reads_first _ = false
 abbrev pub reads_second : Option Command → Bool
 reads_second (Some Run) = true
 reads_second _ = false
+
+-- `run` and `load` hand their run back where it ended well
+abbrev pub hands_back : Option Command → Bool
+hands_back (Some Run) = true
+hands_back (Some (Load n)) = true
+hands_back _ = false
 
 -- an image that is to be made has a number of sectors that an image may have
 abbrev pub IsMakeable : Command → Type 0
@@ -151,8 +165,14 @@ module _ {K : Type 0} (took : K → List ℕ → K → Type 0) (faults_of : K �
     pub form : IsRaw words
     pub answers : RawAnswers took faults_of script first first' old new out status out'
 
+  -- the words call a load, and it answers
+  pub record IsAnsweredLoad (words : List (List ℕ)) (old new : ArrayState) (out : K) (status : ℕ) (world : Option WorldState) (out' : K) : Type 0 where
+    pub n : ℕ
+    pub form : IsLoad n words
+    pub answers : LoadAnswers took faults_of n old new out status world out'
+
   abbrev pub Answers : List (List ℕ) → Option (List ℕ) → Count → Count → Option (List ℕ) → Count → Count → ArrayState → ArrayState → K → ℕ → Option WorldState → K → Type 0
   Answers words requests first first' faults second second' old new out status world out' =
       IsUsage words old new out status out' ⊎ (IsAnsweredRun words requests first first' faults second second' old new out status world out'
       ⊎ (IsAnsweredList words old new out status out' ⊎ (IsAnsweredNew words old new out status out'
-      ⊎ IsAnsweredRaw words requests first first' old new out status out')))
+      ⊎ (IsAnsweredRaw words requests first first' old new out status out' ⊎ IsAnsweredLoad words old new out status world out'))))

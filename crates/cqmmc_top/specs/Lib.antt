@@ -2,6 +2,7 @@ pub mod Answers
 pub mod Command
 pub mod Concludes
 pub mod Listing
+pub mod Load
 pub mod Made
 pub mod Opened
 pub mod Print

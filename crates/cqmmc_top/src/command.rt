@@ -1,11 +1,12 @@
 // The words of the program, and the command that they call.
-ghost use Rattle.std.specs.Prelude.{◌≡◌, ◌+◌, ◌≤◌, decimal, drop, false, ℕ, [], List, Option, All, IfSome, IfNone, IsTrue, ◌↔◌, map, string_bytes, vec_len};
+ghost use Rattle.std.specs.Prelude.{◌≡◌, ◌+◌, ◌^◌, ◌<◌, ◌≤◌, decimal, drop, false, ℕ, [], List, Option, All, IfSome, IfNone, IsTrue, ◌↔◌, map, string_bytes, vec_len};
 ghost use Rattle.cqmmc_top.specs.declared.command.Command.{Command as CommandOf};
-ghost use Rattle.cqmmc_top.specs.declared.command.Command.TheVariants.{New as NewOf};
-ghost use Rattle.cqmmc_top.specs.Command.{Answers, IsCall, IsCommand, IsMakeable, IsNew, IsRaw, IsRun, ListAnswers, MakeAnswers, RunAnswers, reads_first, reads_second};
+ghost use Rattle.cqmmc_top.specs.declared.command.Command.TheVariants.{Load as LoadOf, New as NewOf};
+ghost use Rattle.cqmmc_top.specs.Command.{Answers, IsCall, IsCommand, IsLoad, IsMakeable, IsNew, IsRaw, IsRun, ListAnswers, MakeAnswers, RunAnswers, hands_back, reads_first, reads_second};
 ghost use Rattle.cqmmc_top.specs.Refusal.{Says};
 
 use crate::listing::put_csd;
+use crate::load::load;
 use crate::make::make_image;
 use crate::opening::open;
 use crate::prepare::prepare;
@@ -30,6 +31,8 @@ pub enum Command {
     New { sectors: u32 },
     /// `raw IMAGE SCRIPT`
     Raw,
+    /// `load IMAGE N`, N from 0 to 4,294,967,295
+    Load { seed: u32 },
 }
 
 /// How many pages `new` makes: 8 and one for each sector. None comes exactly where the words are no form of `new`.
@@ -42,6 +45,7 @@ pub fn new_pages(words: &[String]) -> Option<u32>
         Some(Command::Run) => None,
         Some(Command::ExtCsd) => None,
         Some(Command::Raw) => None,
+        Some(Command::Load { .. }) => None,
         None => None,
     }
 }
@@ -60,7 +64,7 @@ pub fn text_words(words: &[String]) -> &[String]
 }
 
 /// Runs the command that the words call, over an array, three sources for its texts and a sink for its lines, and gives back the
-/// exit status, the array, and the run of `run` where it ended well. The first text is read for `run` and `raw` alone, the second
+/// exit status, the array, and the run of `run` or `load` where it ended well. The first text is read for `run` and `raw` alone, the second
 /// for `run` alone.
 pub fn run_command<A: Array, S1: Source, S2: Source, S3: Source, K: Sink>(
     alloc: Global,
@@ -72,7 +76,7 @@ pub fn run_command<A: Array, S1: Source, S2: Source, S3: Source, K: Sink>(
     out: &mut K,
 ) -> (u8, A, Option<World>)
     ensures answers { Answers K.took K.faults (map string_bytes words.now) (S1.left first.old) (S1.faults first.old) (S1.faults first.new) (S2.left second.old) (S2.faults second.old) (S2.faults second.new) (A.state array) (A.state result.1) out.old result.0 result.2 out.new }
-    ensures world { (IsRun (map string_bytes words.now) → ⊥) → result.2 ≡ None }
+    ensures world { (IsRun (map string_bytes words.now) → ⊥) → ((n : ℕ) → IsLoad n (map string_bytes words.now) → ⊥) → result.2 ≡ None }
     ensures first { (IsRun (map string_bytes words.now) → ⊥) → (IsRaw (map string_bytes words.now) → ⊥) → first.new ≡ first.old }
     ensures second { (IsRun (map string_bytes words.now) → ⊥) → second.new ≡ second.old }
     ensures third { third.new ≡ third.old }
@@ -92,7 +96,7 @@ fn carry_out<A: Array, S1: Source, S2: Source, K: Sink>(
 ) -> (u8, A, Option<World>)
     requires makeable { IfSome command IsMakeable }
     ensures answers { (words : List (List ℕ)) → IsCall command words → Answers K.took K.faults words (S1.left first.old) (S1.faults first.old) (S1.faults first.new) (S2.left second.old) (S2.faults second.old) (S2.faults second.new) (A.state array) (A.state result.1) out.old result.0 result.2 out.new }
-    ensures world { reads_second command ≡ false → result.2 ≡ None }
+    ensures world { hands_back command ≡ false → result.2 ≡ None }
     ensures first { reads_first command ≡ false → first.new ≡ first.old }
     ensures second { reads_second command ≡ false → second.new ≡ second.old }
 {
@@ -102,6 +106,7 @@ fn carry_out<A: Array, S1: Source, S2: Source, K: Sink>(
         Some(Command::ExtCsd) => (list(&mut array, out), array, None),
         Some(Command::New { sectors }) => (make(sectors, &mut array, out), array, None),
         Some(Command::Raw) => (run_script(alloc, first, &mut array, out), array, None),
+        Some(Command::Load { seed }) => load(alloc, seed, array, out),
     }
 }
 
@@ -158,6 +163,7 @@ fn command_of(words: &[String]) -> Option<Command>
         [command, _] if is_word(command, "extcsd") => Some(Command::ExtCsd),
         [command, _, sectors] if is_word(command, "new") => new_of(sectors),
         [command, _, _] if is_word(command, "raw") => Some(Command::Raw),
+        [command, _, seed] if is_word(command, "load") => load_of(seed),
         _ => None,
     }
 }
@@ -175,6 +181,15 @@ fn new_of(sectors: &String) -> Option<Command>
         return None;
     }
     Some(Command::New { sectors })
+}
+
+// `load` with its number, if that is one.
+fn load_of(seed: &String) -> Option<Command>
+    ensures some { IfSome result (λ command. (n : ℕ) × (command ≡ LoadOf n) × (n < 2 ^ 32) × (string_bytes seed.now ≡ decimal n)) }
+    ensures none { IfNone result ((n : ℕ) → n < 2 ^ 32 → string_bytes seed.now ≡ decimal n → ⊥) }
+{
+    let seed = read_decimal(seed.as_bytes())?;
+    Some(Command::Load { seed })
 }
 
 fn is_word(word: &String, text: &str) -> bool

@@ -3,6 +3,7 @@
 
 mod command;
 mod listing;
+mod load;
 mod make;
 mod opening;
 mod prepare;

@@ -11,6 +11,7 @@ ghost use Rattle.whole_run.specs.Whole.{IsNew};
 use crate::command::refuse;
 use crate::prepare::Ready;
 use crate::refusal::Refusal;
+use answer_laws::requests_are_answered;
 use array_edge::{Array, RunArray, RunStart, ScriptArray};
 use io_edge::Sink;
 use run_laws::acceptance_takes_whole_runs;
@@ -41,6 +42,7 @@ fn serve_over<A: Array, K: Sink, S: RunStart>(
     ensures { (requests fault_text : Option (List ℕ)) (first first' second second' : Count) → IsReady requests fault_text ready → RunAnswers K.took K.faults requests first first' fault_text second second' (A.state array) (A.state result.1) out.old result.0 result.2 out.new }
 {
     acceptance_takes_whole_runs();
+    requests_are_answered();
     let Ready { mut world, hits } = ready;
     let mut run: RunArray<A, S> = RunArray::over(ScriptArray::over(array, hits));
     let ended = run_to_end(&mut world, &mut run, out);
@@ -65,8 +67,8 @@ fn conclude<K: Sink>(ended: Result<(), Stop>, out: &mut K) -> u8
     }
 }
 
-// A run that ended well.
-fn hand_back(world: World, status: u8) -> Option<World>
+/// A run that ended well.
+pub fn hand_back(world: World, status: u8) -> Option<World>
     ensures well { status ≡ 0 → result ≡ Some world }
     ensures other { (status ≡ 0 → ⊥) → result ≡ None }
 {

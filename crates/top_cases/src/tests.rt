@@ -44,6 +44,17 @@ irq 00000001
 1 ok
 ";
 
+// Requests of all kinds: writes into the cache, behind a barrier, and kept at once, a flush and a read.
+const KINDS: &str = "\
+set depth 1
+write 0 2 fill aa
+barrier
+write 1 2 fill bb reliable
+write 0 1 fill cc forced
+flush
+read 0 4
+";
+
 const READ_TWO: &str = "read 0 2\n";
 
 // Written at the close of the phase, by programs 1 to 4: the data, the gate ajar, the sector, the gate shut.
@@ -167,7 +178,7 @@ fn run_text(
     run_words(alloc, words, &mut first, &mut second, array, out)
 }
 
-// A source that fails at its first call, or at the one that would tell the text's end.
+// A source that fails at its first call, or at the one that would tell the text's end. The gate is left ajar.
 #[test]
 fn sources_fail(rt: HostRuntime) -> Result<(), Fail> {
     let alloc = rt.alloc();
@@ -182,10 +193,15 @@ fn sources_fail(rt: HostRuntime) -> Result<(), Fail> {
         let mut out = room(alloc)?;
         let mut first = source(alloc, READ, first)?;
         let mut second = source(alloc, "", second)?;
-        let array = image(alloc, Gate::Shut, &[])?;
+        let before = image(alloc, Gate::Ajar(3), &[])?;
+        let array = image(alloc, Gate::Ajar(3), &[])?;
         let answer = run_words(alloc, words, &mut first, &mut second, array, &mut out)?;
         assert_eq!(rt; answer.0, 4, "of {words}");
         assert_eq!(rt; out.bytes(), b"read fault\n".as_slice(), "of {words}");
+        assert!(rt;
+            answer.1.contents().as_slice() == before.contents().as_slice(),
+            "of {words}"
+        );
     }
     Ok(())
 }
@@ -215,6 +231,32 @@ fn sink_takes_single_bytes(rt: HostRuntime) -> Result<(), Fail> {
             assert_eq!(rt; answer.0, 5, "of {words}");
         }
     }
+    Ok(())
+}
+
+// A sink that fails at each of its calls in turn, over requests of all kinds, took a front of the whole text.
+#[test]
+fn sink_fails_at_each_piece(rt: HostRuntime) -> Result<(), Fail> {
+    let alloc = rt.alloc();
+    let mut whole = room(alloc)?;
+    let array = image(alloc, Gate::Shut, &[])?;
+    let answer = run_text(alloc, RUN, KINDS, array, &mut whole)?;
+    assert_eq!(rt; answer.0, 0);
+    let mut pieces = 0u32;
+    for k in 1..1000u32 {
+        let mut out = MemSink::with_room(alloc, 4096, vec![in alloc; k]?)?;
+        let array = image(alloc, Gate::Shut, &[])?;
+        let answer = run_text(alloc, RUN, KINDS, array, &mut out)?;
+        assert!(rt; whole.bytes().starts_with(out.bytes()), "at piece {k}");
+        if answer.0 == 0 {
+            assert_eq!(rt; out.bytes(), whole.bytes(), "at piece {k}");
+            break;
+        }
+        assert_eq!(rt; answer.0, 5, "at piece {k}");
+        assert!(rt; out.bytes().len() < whole.bytes().len(), "at piece {k}");
+        pieces = k;
+    }
+    assert!(rt; pieces >= 40, "{pieces} pieces");
     Ok(())
 }
 

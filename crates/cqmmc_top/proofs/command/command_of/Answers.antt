@@ -7,4 +7,4 @@ returns-in-len2-clause-some c = csd_form string_bytes c.args.words.now c.command
 
 pub returns-in-len4-clause-some : goal.returns-in-len4-clause-some
 returns-in-len4-clause-some c =
-    run_form string_bytes c.args.words.now c.command-item-then-words-lt5.result (omega arith) (ap string_bytes (sym c.command-item-then-words-lt5.is) ∙ c.is_word-then-words-lt5.ensures.0 c.if-is_word-4.true)
+    run_form string_bytes c.args.words.now c.command-item-then-words-lt5.result (omega arith) (ap string_bytes (sym c.command-item-then-words-lt5.is) ∙ c.is_word-then-words-lt5.ensures.0 c.if-is_word-5.true)

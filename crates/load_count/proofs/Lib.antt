@@ -1,0 +1,4 @@
+mod ItemLines
+mod LinesTaken
+mod Plain
+mod Totals
