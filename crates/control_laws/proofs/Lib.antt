@@ -1,0 +1,6 @@
+mod Dues
+mod Rules
+mod Orders
+mod Effects
+mod Marks
+mod Steps
