@@ -1,5 +1,6 @@
 pub mod Answered
 pub mod Beginning
+pub mod Begun
 pub mod Forms
 pub mod Leaving
 pub mod Lines
@@ -7,6 +8,7 @@ pub mod Loading
 pub mod Listed
 pub mod Making
 pub mod Names
+pub mod Openings
 pub mod Playing
 pub mod RawFaults
 pub mod Reading

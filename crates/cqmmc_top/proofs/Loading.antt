@@ -38,7 +38,8 @@ use Rattle.world_state.specs.Stands.{IsNear}
 use Rattle.cqmmc_top.specs.Load.{ConcludesLoad, LoadAnswers, LoadRefused, Tells}
 use Rattle.cqmmc_top.specs.Opened.{HasSectors}
 use Rattle.cqmmc_top.specs.Refusal.{Says, refusal_text, status_of}
-use Rattle.cqmmc_top.specs.Run.{EndedEarly, EndedSo, IsStill}
+use Rattle.cqmmc_top.specs.Run.{EndedEarly, EndedSo}
+use Rattle.cqmmc_top.specs.Answers.{IsStill}
 use Rattle.cqmmc_top.specs.declared.refusal.Refusal.{Refusal}
 use Rattle.cqmmc_top.specs.declared.refusal.Refusal.TheVariants.{BadImage, ArrayFault, NoPower}
 use Rattle.cqmmc_top.proofs.Served.{ended_early, ended_well}

@@ -19,13 +19,16 @@ use Rattle.storage_runs.specs.Laws.{joined}
 use Rattle.trace_print.specs.Prints.{RoseBy, halt_faults, is_cut_line, is_flash}
 use Rattle.answer_laws.specs.Answers.{IsAnswered}
 use Rattle.array_edge.specs.Array.{ArrayState}
+use Rattle.rest_array.proofs.On.{on_same}
 use Rattle.array_edge.specs.Hits.{reached_cuts, reached_fails}
-use Rattle.array_edge.specs.Script.{HasRun, IsWithinHits, with_more}
+use Rattle.array_edge.specs.Script.{HasMet, HasRun, IsWithinHits, with_more}
+use Rattle.intent_store.specs.Calls.{IsStartAgain}
 use Rattle.intent_store.specs.Intent.{ShowsImage, shown_by}
 use Rattle.power_step.proofs.Counting.{later_both}
 use Rattle.power_step.specs.Loses.{EndsBy}
 use Rattle.power_step.specs.Wrote.{Wrote}
 use Rattle.step_laws.specs.Steps.{NeedsCut}
+use Rattle.world.specs.First.{opening_end}
 use Rattle.whole_run.specs.Course.{BreaksNear}
 use Rattle.whole_run.specs.Cuts.{RoseWith, is_power}
 use Rattle.whole_run.specs.Whole.{Breaks, RunTells, Runs, halt_in}
@@ -35,7 +38,7 @@ use Rattle.world_state.specs.Path.{PathState}
 use Rattle.world_state.specs.Stands.{IsNear, Stands}
 use Rattle.cut_order.specs.Order.{OrderState}
 use Rattle.world_steps.specs.World.{WorldState}
-use Rattle.cqmmc_top.specs.Answers.{HasCalls, OpeningFailed, by_opening, fail_lines, program_cuts}
+use Rattle.cqmmc_top.specs.Answers.{HasBegun, HasCalls, OpeningFailed, by_opening, fail_lines, program_cuts, refused_end}
 use Rattle.cqmmc_top.specs.Command.{RunAnswers}
 use Rattle.cqmmc_top.specs.Concludes.{Concludes}
 use Rattle.cqmmc_top.specs.Print.{run_status}
@@ -45,6 +48,7 @@ use Rattle.cqmmc_top.specs.Texts.{AreFaultsOf, IsPlanOf}
 use Rattle.cqmmc_top.specs.declared.refusal.Refusal.{Refusal}
 use Rattle.cqmmc_top.specs.declared.refusal.Refusal.TheVariants.{BadImage, ArrayFault, NoPower}
 use Rattle.cqmmc_top.proofs.Answered.{has_answers}
+use Rattle.cqmmc_top.proofs.Openings.{openings}
 use Rattle.cqmmc_top.proofs.Lines.{cuts_short, fails_short, rose_either, rose_parts, rose_with}
 
 -- ---- the array of a run: the one that was handed in, with what its fault text adds
@@ -217,11 +221,11 @@ module _ {K : Type 0} (took : K → List ℕ → K → Type 0) (both : Joins too
   cuts_most = let short = cuts_short programs fetches faults.array in let few = meant.few in omega (arith, short, few)
 
   -- the image wasn't opened
-  refused : (halt : Halt) (refusal : Refusal) → Runs took plan faults (started a) old (Err (Before halt)) w after mid → took old [] mid → OpeningFailed faults a b calls refusal → (status ≡ 0 → ⊥)
+  refused : (halt : Halt) (refusal : Refusal) → Runs took plan faults (started a) old (Err (Before halt)) w after mid → took old [] mid → OpeningFailed faults a b calls refusal → HasMet a b faults.array made cut programs fetches × IsStartAgain {T = Unit {0}} 8 (started a) after (refused_end refusal) → (status ≡ 0 → ⊥)
       → Says took faults_of refusal mid status new → RunAnswers took faults_of requests first first' fault_text second second' a b old status world new
-  refused halt refusal runs nothing failed above says = inl (record {
+  refused halt refusal runs nothing failed opens above says = inl (record {
     refusal = refusal;
-    cause = by_opening means meant calls failed;
+    cause = by_opening means meant calls failed (openings faults a b calls powered made cut opens.0 fails_most cuts_most (refused_end refusal) opens.1);
     says = says_behind took both faults_of refusal old mid new status nothing later says;
     shown = shown;
     kept = runs.before.2;
@@ -232,11 +236,11 @@ module _ {K : Type 0} (took : K → List ℕ → K → Type 0) (both : Joins too
       shown = runs.before.3
 
   -- it was served
-  served : (result : Result (Unit {0}) Halt) (lines : List Item) → status ≡ run_status result → Wrote took old lines result new → ShowsImage a
+  served : HasBegun faults a b → (result : Result (Unit {0}) Halt) (lines : List Item) → status ≡ run_status result → Wrote took old lines result new → ShowsImage a
       → ((base : List Block) → shown_by a ≡ Some base → EndedSo base plan faults lines result world b) → OnOk result (b.settled ≡ true) → ShowsImage b → is_some world ≡ is_ok result
       → AreFaultsExplained faults a b calls lines result → AreCutsExplained faults a b calls lines → (NeedsCut result → 1 ≤ count_by is_cut_line lines) → Later (faults_of old) (faults_of new) → (result ≡ Err SinkFailed → Rose (faults_of old) (faults_of new))
       → RunAnswers took faults_of requests first first' fault_text second second' a b old status world new
-  served result lines is wrote image ended settled kept handed flash cuts dark sink failed = inr (record {
+  served begun result lines is wrote image ended settled kept handed flash cuts dark sink failed = inr (record {
     plan = plan;
     faults = faults;
     requests_mean = means;
@@ -250,6 +254,7 @@ module _ {K : Type 0} (took : K → List ℕ → K → Type 0) (both : Joins too
     settled = settled;
     kept = kept;
     handed = handed;
+    begun = begun;
     calls = calls;
     flash = flash;
     cuts = cuts;
@@ -293,40 +298,49 @@ module _ {K : Type 0} (took : K → List ℕ → K → Type 0) (both : Joins too
   said_not refusal number is (inl all) zero = absurd (cc (is, all.0, zero))
   said_not refusal number is (inr part) zero = absurd (cc (part.0, zero))
 
-  pub answers : (ended : Result (Unit {0}) Stop) → Runs took plan faults (started a) old ended w after mid → Concludes took faults_of ended mid status new
+  -- the openings, by how the run ended
+  abbrev pub Opened : Result (Unit {0}) Stop → Type 0
+  Opened (Ok done) = HasBegun faults a b
+  Opened (Err (Before halt)) = HasMet a b faults.array made cut programs fetches × IsStartAgain 8 (started a) after (opening_end (Err halt))
+  Opened (Err (Behind halt)) = HasBegun faults a b
+
+  at_once : HasMet a b faults.array made cut programs fetches × IsStartAgain {T = Unit {0}} 8 (started a) after (Ok tt) → HasBegun faults a b
+  at_once opens = record { opened = b; calls = calls; openings = openings faults a b calls powered made cut opens.0 fails_most cuts_most (Ok tt) opens.1; on = on_same b }
+
+  pub answers : (ended : Result (Unit {0}) Stop) → Opened ended → Runs took plan faults (started a) old ended w after mid → Concludes took faults_of ended mid status new
       → (halt_in ended ≡ Err SinkFailed → Rose (faults_of old) (faults_of mid)) → RunAnswers took faults_of requests first first' fault_text second second' a b old status world new
-  answers (Ok done) runs (is, same) failed =
-      served (Ok tt) runs.lines is (stayed runs.lines (Ok tt) same runs.wrote) runs.before
+  answers (Ok done) begun runs (is, same) failed =
+      served begun (Ok tt) runs.lines is (stayed runs.lines (Ok tt) same runs.wrote) runs.before
       (λ base shown. ended_well base plan faults runs.lines b world (λ t it. whole base plan faults runs.lines t means.valid it) (λ it. front base plan faults runs.lines means.valid it) w (some is) (well (runs.tells base shown))) (runs.settled refl)
       (runs.image runs.before) (given is) (explained runs.lines (Ok tt) runs.flash) (cut_so runs.lines runs.cuts) (λ none. absurd none) (later_on same) (λ is. absurd (cc is))
     where
       well : {base : List Block} → RunTells base plan faults runs.lines (Ok tt) w after → (t : State) × Whole base plan faults runs.lines t × EndsBy Good runs.lines × IfSome (shown_by b) (λ pages. pages ≡ t.base) × Stands w.path w.order b t
       well told = (told.0, told.1, told.2, told.3, stands_over w.path w.order told.0 b powered made cut programs fetches told.4)
-  answers (Err (Before SinkFailed)) runs (is, same) failed =
-      served (Err SinkFailed) runs.lines is (stayed runs.lines (Err SinkFailed) same runs.wrote) runs.before.1
+  answers (Err (Before SinkFailed)) opens runs (is, same) failed =
+      served (at_once opens) (Err SinkFailed) runs.lines is (stayed runs.lines (Err SinkFailed) same runs.wrote) runs.before.1
       (λ base shown. ended_at_once base plan faults runs.lines b world (λ t it. whole base plan faults runs.lines t means.valid it) (λ it. front base plan faults runs.lines means.valid it) (runs.tells base shown).0 (runs.tells base shown).1) tt (runs.image runs.before.1) (not_given (no_world 4 is))
       (explained runs.lines (Err SinkFailed) runs.flash) (cut_so runs.lines runs.cuts) (λ none. absurd none) (later_on same) (λ _. rose_on same (failed refl))
-  answers (Err (Before OpenFault)) runs says failed =
+  answers (Err (Before OpenFault)) opens runs says failed =
       refused OpenFault ArrayFault runs (subst (λ lines. Wrote took old lines (Err OpenFault) mid) runs.before.0 runs.wrote)
-      (rose_either made failed_calls a.faults b.faults within.faults_made fails_most runs.before.1) (said_not ArrayFault 6 refl says.said) says
-  answers (Err (Before PowerGone)) runs says failed =
+      (rose_either made failed_calls a.faults b.faults within.faults_made fails_most runs.before.1) opens (said_not ArrayFault 6 refl says.said) says
+  answers (Err (Before PowerGone)) opens runs says failed =
       refused PowerGone NoPower runs (subst (λ lines. Wrote took old lines (Err PowerGone) mid) runs.before.0 runs.wrote)
-      (rose_parts 8 cut cut_calls a.cuts b.cuts within.cuts_made cuts_most runs.before.1) (said_not NoPower 7 refl says.said) says
-  answers (Err (Before BadPages)) runs says failed =
-      refused BadPages BadImage runs (subst (λ lines. Wrote took old lines (Err BadPages) mid) runs.before.0 runs.wrote) runs.before.1 (said_not BadImage 5 refl says.said) says
-  answers (Err (Behind SinkFailed)) runs (is, same) failed =
-      served (Err SinkFailed) runs.lines is (stayed runs.lines (Err SinkFailed) same runs.wrote) runs.before
+      (rose_parts 8 cut cut_calls a.cuts b.cuts within.cuts_made cuts_most runs.before.1) opens (said_not NoPower 7 refl says.said) says
+  answers (Err (Before BadPages)) opens runs says failed =
+      refused BadPages BadImage runs (subst (λ lines. Wrote took old lines (Err BadPages) mid) runs.before.0 runs.wrote) runs.before.1 opens (said_not BadImage 5 refl says.said) says
+  answers (Err (Behind SinkFailed)) begun runs (is, same) failed =
+      served begun (Err SinkFailed) runs.lines is (stayed runs.lines (Err SinkFailed) same runs.wrote) runs.before
       (λ base shown. ended_broken base plan faults runs.lines b world (λ t it. whole base plan faults runs.lines t means.valid it) (λ it. front base plan faults runs.lines means.valid it)
       (breaks_over base plan faults runs.lines b powered made cut programs fetches (runs.tells base shown))) tt (runs.image runs.before) (not_given (no_world 4 is)) (explained runs.lines (Err SinkFailed) runs.flash) (cut_so runs.lines runs.cuts) (λ none. absurd none) (later_on same) (λ _. rose_on same (failed refl))
-  answers (Err (Behind OpenFault)) runs (is, same) failed =
-      served (Err OpenFault) runs.lines is (stayed runs.lines (Err OpenFault) same runs.wrote) runs.before
+  answers (Err (Behind OpenFault)) begun runs (is, same) failed =
+      served begun (Err OpenFault) runs.lines is (stayed runs.lines (Err OpenFault) same runs.wrote) runs.before
       (λ base shown. ended_early base plan faults runs.lines b world (λ t it. whole base plan faults runs.lines t means.valid it) (λ it. front base plan faults runs.lines means.valid it) Fault runs.ends.0 (runs.tells base shown)) tt (runs.image runs.before) (not_given (no_world 6 is))
       (explained runs.lines (Err OpenFault) runs.flash) (cut_so runs.lines runs.cuts) runs.ends.1 (later_on same) (λ is. absurd (cc is))
-  answers (Err (Behind PowerGone)) runs (is, same) failed =
-      served (Err PowerGone) runs.lines is (stayed runs.lines (Err PowerGone) same runs.wrote) runs.before
+  answers (Err (Behind PowerGone)) begun runs (is, same) failed =
+      served begun (Err PowerGone) runs.lines is (stayed runs.lines (Err PowerGone) same runs.wrote) runs.before
       (λ base shown. ended_early base plan faults runs.lines b world (λ t it. whole base plan faults runs.lines t means.valid it) (λ it. front base plan faults runs.lines means.valid it) Dead runs.ends.0 (runs.tells base shown)) tt (runs.image runs.before) (not_given (no_world 7 is))
       (explained runs.lines (Err PowerGone) runs.flash) (cut_so runs.lines runs.cuts) runs.ends.1 (later_on same) (λ is. absurd (cc is))
-  answers (Err (Behind BadPages)) runs (is, same) failed =
-      served (Err BadPages) runs.lines is (stayed runs.lines (Err BadPages) same runs.wrote) runs.before
+  answers (Err (Behind BadPages)) begun runs (is, same) failed =
+      served begun (Err BadPages) runs.lines is (stayed runs.lines (Err BadPages) same runs.wrote) runs.before
       (λ base shown. ended_early base plan faults runs.lines b world (λ t it. whole base plan faults runs.lines t means.valid it) (λ it. front base plan faults runs.lines means.valid it) Image runs.ends.0 (runs.tells base shown)) tt (runs.image runs.before) (not_given (no_world 5 is))
       (explained runs.lines (Err BadPages) runs.flash) (cut_so runs.lines runs.cuts) runs.ends.1 (later_on same) (λ is. absurd (cc is))

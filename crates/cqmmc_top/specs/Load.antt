@@ -21,7 +21,8 @@ use Rattle.world_steps.specs.World.{WorldState}
 use Rattle.cqmmc_top.specs.Opened.{HasSectors, OpeningRefused}
 use Rattle.cqmmc_top.specs.Print.{run_status}
 use Rattle.cqmmc_top.specs.Refusal.{Says}
-use Rattle.cqmmc_top.specs.Run.{EndedSo, IsStill}
+use Rattle.cqmmc_top.specs.Answers.{IsStill}
+use Rattle.cqmmc_top.specs.Run.{EndedSo}
 use Rattle.cqmmc_top.specs.declared.refusal.Refusal.{Refusal}
 use Rattle.cqmmc_top.specs.declared.refusal.Refusal.TheVariants.{BadImage, ArrayFault, NoPower, NoMemory}
 

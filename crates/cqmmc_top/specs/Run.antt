@@ -25,7 +25,7 @@ use Rattle.whole_run.specs.Cuts.{is_power}
 use Rattle.whole_run.specs.Whole.{Breaks}
 use Rattle.world_state.specs.Stands.{IsNear, Stands}
 use Rattle.world_steps.specs.World.{WorldState}
-use Rattle.cqmmc_top.specs.Answers.{HasCalls, fail_lines, program_cuts}
+use Rattle.cqmmc_top.specs.Answers.{HasBegun, HasCalls, IsStill, fail_lines, program_cuts}
 use Rattle.cqmmc_top.specs.Print.{run_status}
 use Rattle.cqmmc_top.specs.Texts.{AreFaultsOf, IsPlanOf}
 
@@ -69,10 +69,6 @@ abbrev pub AreCutsExplained : (faults : Faults) (old new : ArrayState) → HasCa
 AreCutsExplained faults old new calls lines =
     (old.cuts.value + count_by is_cut_line lines ≤ new.cuts.value + (program_cuts faults old new calls + (length faults.cuts + count_by is_power faults.turns))) ⊎ (new.cuts.stands ≡ true)
 
--- it didn't rise, and isn't at its end
-abbrev pub IsStill : Count → Count → Type 0
-IsStill old new = (new.value ≤ old.value) × (new.stands ≡ false)
-
 -- no call failed and no power was lost: the array counted none, and the fault text asks for none
 pub record IsUndisturbed (faults : Faults) (old new : ArrayState) : Type 0 where
   pub fails : IsStill old.faults new.faults
@@ -103,6 +99,7 @@ module _ {K : Type 0} (took : K → List ℕ → K → Type 0) (faults_of : K �
     pub settled : OnOk result (new.settled ≡ true)
     pub kept : ShowsImage new
     pub handed : is_some world ≡ is_ok result
+    pub begun : HasBegun faults old new
     pub calls : HasCalls faults old new
     pub flash : AreFaultsExplained faults old new calls lines result
     pub cuts : AreCutsExplained faults old new calls lines

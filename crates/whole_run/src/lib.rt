@@ -3,4 +3,4 @@
 
 mod run;
 
-pub use run::{Stop, run_to_end};
+pub use run::{Stop, go_on, run_to_end};

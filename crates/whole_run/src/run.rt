@@ -53,8 +53,12 @@ pub fn run_to_end<A: Array, K: Sink>(
     }
 }
 
-// Behind the first line.
-fn go_on<A: Array, K: Sink>(world: &mut World, array: &mut A, out: &mut K) -> Result<(), Halt>
+/// Takes each next event behind the first line until nothing is to do, and flushes.
+///
+/// # Errors
+///
+/// As `run_to_end`'s behind that line.
+pub fn go_on<A: Array, K: Sink>(world: &mut World, array: &mut A, out: &mut K) -> Result<(), Halt>
     requires going { IsGoing world.old (A.state array.old) }
     ensures ends { Ends K.took world.old (A.state array.old) out.old result world.new (A.state array.new) out.new }
     ensures faults { Later (K.faults out.old) (K.faults out.new) }

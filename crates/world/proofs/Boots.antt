@@ -52,9 +52,9 @@ module _ {K : Type 0} (took : K → List ℕ → K → Type 0) (plan : Plan) (fa
   pub boots_shut : (nothing : (out : K) → took out [] out) (old : K) (halt : Halt) (w' : WorldState) (card' : CardState) (a' : ArrayState) → OpensFirst w.path.card a (Err halt) card' a'
       → Boots took plan faults a old (Err halt) w' a' old
   boots_shut nothing old SinkFailed w' card' a' opens = absurd opens.cause
-  boots_shut nothing old OpenFault w' card' a' opens = record { wrote = nothing old; shown = opens.shown; image = opens.image; cause = opens.cause; later_faults = opens.later_faults; later_cuts = opens.later_cuts; broken = λ is. absurd (cc is); keeps = tt; order = tt; ready = tt; prompt = tt; stands = tt }
-  boots_shut nothing old PowerGone w' card' a' opens = record { wrote = nothing old; shown = opens.shown; image = opens.image; cause = opens.cause; later_faults = opens.later_faults; later_cuts = opens.later_cuts; broken = λ is. absurd (cc is); keeps = tt; order = tt; ready = tt; prompt = tt; stands = tt }
-  boots_shut nothing old BadImage w' card' a' opens = record { wrote = nothing old; shown = opens.shown; image = opens.image; cause = opens.cause; later_faults = opens.later_faults; later_cuts = opens.later_cuts; broken = λ is. absurd (cc is); keeps = tt; order = tt; ready = tt; prompt = tt; stands = tt }
+  boots_shut nothing old OpenFault w' card' a' opens = record { wrote = nothing old; shown = opens.shown; image = opens.image; cause = opens.cause; openings = opens.openings; later_faults = opens.later_faults; later_cuts = opens.later_cuts; broken = λ is. absurd (cc is); keeps = tt; order = tt; ready = tt; prompt = tt; stands = tt }
+  boots_shut nothing old PowerGone w' card' a' opens = record { wrote = nothing old; shown = opens.shown; image = opens.image; cause = opens.cause; openings = opens.openings; later_faults = opens.later_faults; later_cuts = opens.later_cuts; broken = λ is. absurd (cc is); keeps = tt; order = tt; ready = tt; prompt = tt; stands = tt }
+  boots_shut nothing old BadImage w' card' a' opens = record { wrote = nothing old; shown = opens.shown; image = opens.image; cause = opens.cause; openings = opens.openings; later_faults = opens.later_faults; later_cuts = opens.later_cuts; broken = λ is. absurd (cc is); keeps = tt; order = tt; ready = tt; prompt = tt; stands = tt }
 
   module _ (sound : IsSoundFresh) (stands : StandsOpened) (tied : (p : PathState) (a : ArrayState) (p' : PathState) (a' : ArrayState) → IsTiedAnew p a p' a') (valid : IsValidPlan plan) (coming : AreToCome faults) (fresh : IsFresh plan faults w)
       (w' : WorldState) (a' : ArrayState) (opens : OpensFirst w.path.card a (Ok tt) w'.path.card a')
@@ -108,6 +108,7 @@ module _ {K : Type 0} (took : K → List ℕ → K → Type 0) (plan : Plan) (fa
       shown = opens.shown;
       image = opens.image;
       cause = opens.cause;
+      openings = opens.openings;
       later_faults = opens.later_faults;
       later_cuts = opens.later_cuts;
       broken = λ is. absurd (cc is);
@@ -122,6 +123,7 @@ module _ {K : Type 0} (took : K → List ℕ → K → Type 0) (plan : Plan) (fa
       shown = opens.shown;
       image = opens.image;
       cause = opens.cause;
+      openings = opens.openings;
       later_faults = opens.later_faults;
       later_cuts = opens.later_cuts;
       broken = λ is. first_so (shown_by a') refl;

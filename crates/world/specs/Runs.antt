@@ -19,6 +19,7 @@ use Rattle.array_edge.specs.Array.{ArrayState}
 use Rattle.card_core.specs.Card.{sectors}
 use Rattle.card_store.specs.Store.{IsOpen}
 use Rattle.cut_order.specs.Order.{OrderState, fresh}
+use Rattle.intent_store.specs.Calls.{IsStartAgain}
 use Rattle.intent_store.specs.Intent.{IsNoImage, ShowsImage, shown_by}
 use Rattle.power_step.specs.Loses.{HasEnd}
 use Rattle.power_step.specs.Wrote.{Wrote}
@@ -27,6 +28,7 @@ use Rattle.world_state.specs.Path.{PathState, plan_of}
 use Rattle.world_state.specs.Stands.{IsNear, Stands}
 use Rattle.world_state.specs.Ties.{IsReady}
 use Rattle.world_steps.specs.World.{IsPrompt, StandsFor, WorldState, is_to_do}
+use Rattle.world.specs.First.{opening_end}
 use Rattle.world.specs.declared.finish.Finish.{Finish}
 use Rattle.world.specs.declared.finish.Finish.TheVariants.{Off as IsOff, Again}
 
@@ -57,6 +59,7 @@ pub record Boots {K : Type 0} (took : K → List ℕ → K → Type 0) (plan : P
   pub shown : shown_by a' ≡ shown_by a
   pub image : ShowsImage a → ShowsImage a'
   pub cause : HasBootCause a a' result
+  pub openings : IsStartAgain 8 a a' (opening_end result)
   pub later_faults : Later a.faults a'.faults
   pub later_cuts : Later a.cuts a'.cuts
   pub broken : result ≡ Err SinkFailed → IfSome (shown_by a') (λ base. first_line w'.path ≡ card_line base plan)
