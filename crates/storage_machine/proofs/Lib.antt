@@ -1,2 +1,4 @@
 pub mod Masks
 pub mod Changes
+mod FirstFlags
+mod UnusedLines

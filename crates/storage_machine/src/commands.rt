@@ -202,7 +202,7 @@ fn kind_of(bus: &[Hit], n: u32) -> Option<BusKind>
 pub fn hit(s: &State) -> Option<BusKind>
     ensures { result ≡ hit s.now }
 {
-    let kind = kind_of(s.faults.bus.as_slice(), next_number(s));
+    let kind = kind_of(s.faults.faults().bus.as_slice(), next_number(s));
     met(execute_blocks(s, due(s)), kind)
 }
 
@@ -243,8 +243,9 @@ pub fn is_kind(kind: Option<BusKind>, other: BusKind) -> bool
 fn next_word(s: &State) -> u32
     ensures { result ≡ next_word s.now }
 {
-    if s.words < s.faults.ready.len() {
-        *s.faults.ready.at(s.words)
+    let words = &s.faults.faults().ready;
+    if s.words < words.len() {
+        *words.at(s.words)
     } else {
         u32::MAX
     }

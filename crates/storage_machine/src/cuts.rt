@@ -15,21 +15,12 @@ fn sent_so_far(s: &State) -> u32
     if s.busy { next_number(s) } else { s.n }
 }
 
-fn first_unused(lines: &[u32], used: &[bool], sent: u32) -> Option<usize>
-    ensures { result ≡ position (λ line. not line.1 && nat_le line.0 sent) (zip lines.now used.now) }
-{
-    lines
-        .iter()
-        .zip(used.iter())
-        .position(|line| !*line.1 && *line.0 <= sent)
-}
-
 /// The first `cut` line that isn't used and whose number has come.
 #[tactic(auto, unfolding(crate::specs::Cuts::due_line))]
 pub fn due_line(s: &State) -> Option<usize>
     ensures { result ≡ due_line s.now }
 {
-    first_unused(s.faults.cuts.as_slice(), s.cuts.as_slice(), sent_so_far(s))
+    s.cuts.first_up_to(&s.faults, sent_so_far(s))
 }
 
 pub fn is_due(s: &State) -> bool
@@ -38,21 +29,12 @@ pub fn is_due(s: &State) -> bool
     to_do(s) && due_line(s).is_some()
 }
 
-fn any_unused(lines: &[u32], used: &[bool], n: u32) -> bool
-    ensures { result ≡ list_any (λ line. not line.1 && (line.0 == n)) (zip lines.now used.now) }
-{
-    lines
-        .iter()
-        .zip(used.iter())
-        .any(|line| !*line.1 && *line.0 == n)
-}
-
 /// Whether the next command's own number has a `cut` line that isn't used.
 #[tactic(auto, unfolding(crate::specs::Cuts::has_own_line))]
 pub fn has_own_line(s: &State) -> bool
     ensures { result ≡ has_own_line s.now }
 {
-    any_unused(s.faults.cuts.as_slice(), s.cuts.as_slice(), next_number(s))
+    s.cuts.has_unused(&s.faults, next_number(s))
 }
 
 fn least(best: Option<u32>, x: u32) -> Option<u32>

@@ -1,8 +1,7 @@
 // What the host has to do: steps of a recovery, answers, the next request.
-ghost use Rattle.std.specs.Prelude.{◌≡◌, ◌+◌, ◌<◌, ◌^◌, IfSome, position};
+ghost use Rattle.std.specs.Prelude.{◌≡◌, ◌+◌, ◌<◌, ◌^◌, IfSome};
 ghost use Rattle.storage_machine.specs.Jobs.{job_of};
-ghost use Rattle.std.specs.List.{list_any};
-ghost use Rattle.storage_machine.specs.Host.{below, has_work, is_fault_of, is_irq_due, is_silent, is_stopped, issue_of, named_times, next_issue, next_place, recovery_step, recovery_steps, tag_for, to_do};
+ghost use Rattle.storage_machine.specs.Host.{below, has_work, is_fault_of, is_irq_due, is_silent, is_stopped, issue_of, named_times, next_issue, recovery_step, recovery_steps, tag_for, to_do};
 
 use crate::commands::{is_calm, is_running};
 use crate::jobs::{is_direct, job_of};
@@ -10,18 +9,12 @@ use crate::slots::{Question, asks, has, no_tasks, slot_at, tag_of};
 use crate::{Recovery, State, Stop};
 use storage_model::Job;
 
-fn some_waits(waiting: &[bool]) -> bool
-    ensures { result ≡ list_any (λ waits. waits) waiting.now }
-{
-    waiting.iter().any(|waits| *waits)
-}
-
 /// Whether a request waits or is issued, or a recovery is under way.
 #[tactic(auto, unfolding(crate::specs::Host::to_do))]
 pub fn to_do(s: &State) -> bool
     ensures { result ≡ to_do s.now }
 {
-    if some_waits(s.waiting.as_slice()) {
+    if s.waiting.has_any() {
         return true;
     }
     if has(Question::Issued, &s.slots) {
@@ -61,12 +54,6 @@ fn tag_for(s: &State, job: &Job) -> Option<usize>
     }
 }
 
-fn next_place(waiting: &[bool]) -> Option<usize>
-    ensures { result ≡ position (λ waits. waits) waiting.now }
-{
-    waiting.iter().position(|waits| *waits)
-}
-
 fn issue_of(s: &State, place: Option<usize>) -> Option<(usize, usize)>
     requires { IfSome place (λ p. p < 2 ^ 63) }
     ensures { result ≡ issue_of s.now place }
@@ -97,7 +84,7 @@ pub fn next_issue(s: &State) -> Option<(usize, usize)>
     ensures { result ≡ next_issue s.now }
 {
     if is_running(&s.stop) && is_calm(&s.recovery) {
-        issue_of(s, next_place(s.waiting.as_slice()))
+        issue_of(s, s.waiting.first())
     } else {
         None
     }

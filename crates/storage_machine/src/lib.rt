@@ -4,9 +4,15 @@
 
 pub mod commands;
 pub mod cuts;
+mod flags;
 pub mod host;
 pub mod jobs;
+mod script;
 pub mod slots;
 mod state;
+mod used;
 
-pub use state::{EpochList, Event, FlagList, Owed, Recovery, Slot, Standing, State, Stop, Task};
+pub use flags::Flags;
+pub use script::Script;
+pub use state::{EpochList, Event, Owed, Recovery, Slot, Standing, State, Stop, Task};
+pub use used::UsedLines;

@@ -1,5 +1,6 @@
 // The state of the storage machine.
-use storage_model::{BlockList, BusKind, Bytes, Faults, Letter, MarkList, Plan, Sequence};
+use crate::{Flags, Script, UsedLines};
+use storage_model::{BlockList, BusKind, Bytes, Letter, MarkList, Plan, Sequence};
 
 /// How far an issued request has come. A rung task waits for its parameters (CMD44), a named one for its address (CMD45),
 /// a sent one for a queue status that says it is ready, a ready one for its execution (CMD46, CMD47). The answer of a
@@ -23,8 +24,6 @@ pub struct Task {
 }
 
 pub type Slot = Option<Task>;
-
-pub type FlagList = Sequence<bool>;
 
 pub type EpochList = Sequence<usize>;
 
@@ -89,11 +88,11 @@ pub enum Owed {
 #[derive(Drop)]
 pub struct State {
     pub plan: Plan,
-    pub faults: Faults,
+    pub faults: Script,
     pub base: BlockList,
     pub pend: MarkList,
     /// Of each request, whether it waits to be issued; a held one waits too.
-    pub waiting: FlagList,
+    pub waiting: Flags,
     /// Of each request, how many bus faults named it, up to four.
     pub named: Bytes,
     /// By tag.
@@ -110,7 +109,7 @@ pub struct State {
     pub words: usize,
     pub letters: usize,
     /// Of each `cut` line, whether it was used.
-    pub cuts: FlagList,
+    pub cuts: UsedLines,
     /// Whether the phase of the due task is under way.
     pub busy: bool,
     /// The engine events of that phase that printed nothing.

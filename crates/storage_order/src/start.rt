@@ -4,14 +4,8 @@ ghost use Rattle.storage_order.specs.Accept.{started};
 
 use std::alloc::Global;
 use storage_machine::slots::no_tasks;
-use storage_machine::{EpochList, Event, FlagList, Owed, Recovery, State, Stop};
+use storage_machine::{EpochList, Event, Flags, Owed, Recovery, Script, State, Stop, UsedLines};
 use storage_model::{BlockList, Bytes, Faults, MarkList, NoMemory, Plan, Sequence};
-
-fn flags(alloc: Global, count: usize, flag: bool) -> Result<FlagList, NoMemory>
-    ensures { IfOk result (λ flags. flags ≡ replicate count flag) }
-{
-    Ok(FlagList::from_vec(vec![in alloc; flag; count]?))
-}
 
 fn zeros(alloc: Global, count: usize) -> Result<Bytes, NoMemory>
     ensures { IfOk result (λ zeros. zeros ≡ replicate count 0) }
@@ -38,13 +32,13 @@ pub fn start_state(
 ) -> Result<State, NoMemory>
     ensures { IfOk result (λ state. state ≡ started base plan faults) }
 {
-    let waiting = flags(alloc, plan.jobs.len(), true)?;
+    let waiting = Flags::all_up(alloc, plan.jobs.len())?;
     let named = zeros(alloc, plan.jobs.len())?;
-    let cuts = flags(alloc, faults.cuts.len(), false)?;
+    let cuts = UsedLines::none_used(alloc, faults.cuts.len())?;
     let data = no_data(alloc)?;
     Ok(State {
         plan,
-        faults,
+        faults: Script::of(faults),
         base,
         pend: MarkList::new(alloc),
         waiting,

@@ -15,17 +15,17 @@ use std::alloc::Global;
 use storage_machine::cuts::{due_line, next_left};
 use storage_machine::host::{recovery_steps, to_do};
 use storage_machine::slots::{Change, change_slots, tag_with};
-use storage_machine::{EpochList, Event, FlagList, Owed, Recovery, State, Stop};
+use storage_machine::{EpochList, Event, Owed, Recovery, State, Stop, UsedLines};
 use storage_model::{
     Block, BlockList, Bytes, End, Job, Letter, Mark, MarkList, NoMemory, Put, Sequence, count_bars,
     mix_allows,
 };
 
-fn use_line(cuts: &mut FlagList, line: Option<usize>)
+fn use_line(cuts: &mut UsedLines, line: Option<usize>)
     ensures { cuts.new ≡ used cuts.old line }
 {
     if let Some(line) = line {
-        put_in(cuts, line, true);
+        cuts.use_line(line);
     }
 }
 
@@ -44,12 +44,6 @@ fn is_quiet(event: &Event) -> bool
     matches!(event, Event::Told(Letter::Engine | Letter::Card))
 }
 
-fn some_waits(waiting: &[bool]) -> bool
-    ensures { result ≡ list_any (λ waits. waits) waiting.now }
-{
-    waiting.iter().any(|waits| *waits)
-}
-
 // Whether nothing is to do behind the silent steps of a recovery.
 #[tactic(auto, unfolding(storage_machine::specs::Host::to_do, storage_machine::specs::Host::recovery_steps))]
 fn is_over(s: &State) -> bool
@@ -58,9 +52,7 @@ fn is_over(s: &State) -> bool
     match s.recovery {
         Recovery::Calm => !to_do(s),
         Recovery::Halted | Recovery::Cleared => false,
-        Recovery::Discarded | Recovery::Cleaned | Recovery::Resumed => {
-            !some_waits(s.waiting.as_slice())
-        }
+        Recovery::Discarded | Recovery::Cleaned | Recovery::Resumed => { !s.waiting.has_any() }
     }
 }
 
@@ -129,7 +121,7 @@ pub fn after_lost(s: &mut State, alloc: Global, id: u32)
 {
     let tag = tag_with(id, &s.slots);
     drop_data(&mut s.data, alloc, tag);
-    put_in(&mut s.waiting, place_of(id), false);
+    s.waiting.lower(place_of(id));
     change_slots(&mut s.slots, Change::Answer(id));
     let owed = s.owed;
     over(s, owed);

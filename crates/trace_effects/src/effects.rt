@@ -16,7 +16,7 @@ use storage_machine::cuts::is_due;
 use storage_machine::host::{has_work, is_silent, recovery_step};
 use storage_machine::jobs::{is_in_range, job_of};
 use storage_machine::slots::{Change, Question, change_slots, has, put_slot, tag_of};
-use storage_machine::{Event, FlagList, Owed, Recovery, Slot, Standing, State, Stop, Task};
+use storage_machine::{Event, Flags, Owed, Recovery, Slot, Standing, State, Stop, Task};
 use storage_model::{BlockList, BusKind, Bytes, Letter, NoMemory};
 use trace_rules::answers::data_on;
 use trace_rules::lines::is_poll;
@@ -83,13 +83,13 @@ pub fn begin(s: &mut State, letter: Letter)
 pub fn letters_left(s: &State) -> bool
     ensures { result ≡ letters_left s.now }
 {
-    s.letters < s.faults.turns.len()
+    s.letters < s.faults.faults().turns.len()
 }
 
 fn letters_used(s: &State) -> usize
     ensures { result ≡ letters_used s.now }
 {
-    let letters = s.faults.turns.len();
+    let letters = s.faults.faults().turns.len();
     if s.letters < letters {
         s.letters + 1
     } else {
@@ -111,7 +111,7 @@ pub fn after_issue(s: &mut State, id: u32, tag: u8) -> Result<(), NoMemory>
     ensures err { OnErr result (s.new ≡ s.old) }
 {
     s.order.push(tag)?;
-    put_in(&mut s.waiting, place_of(id), false);
+    s.waiting.lower(place_of(id));
     let task = Task {
         id,
         standing: Standing::Rung,
@@ -153,7 +153,7 @@ pub fn after_address(s: &mut State, n: u32, id: u32)
 fn words_used(s: &State) -> usize
     ensures { result ≡ words_used s.now }
 {
-    let words = s.faults.ready.len();
+    let words = s.faults.faults().ready.len();
     if s.words < words { s.words + 1 } else { words }
 }
 
@@ -290,16 +290,16 @@ pub fn after_fault(s: &mut State, id: u32)
     over(s, Owed::Recover);
 }
 
-fn hold(waiting: &mut FlagList, slot: &Slot)
+fn hold(waiting: &mut Flags, slot: &Slot)
     ensures { waiting.new ≡ with_held waiting.old slot.now }
 {
     if let Some(task) = slot {
-        put_in(waiting, place_of(task.id), true);
+        waiting.raise(place_of(task.id));
     }
 }
 
 #[tactic(auto, unfolding(crate::specs::Effects::waiting_with))]
-fn hold_all(waiting: &mut FlagList, slots: &[Slot; 32])
+fn hold_all(waiting: &mut Flags, slots: &[Slot; 32])
     ensures { waiting.new ≡ waiting_with waiting.old slots.now }
 {
     for slot in slots {

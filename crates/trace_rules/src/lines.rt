@@ -147,7 +147,7 @@ fn owes_nothing(owed: &Owed) -> bool
 pub fn turn_holds(s: &State, letter: Letter) -> bool
     ensures { result ≡ turn_holds s.now letter }
 {
-    owes_nothing(&s.owed) && is_letter_at(s.faults.turns.as_slice(), s.letters, letter)
+    owes_nothing(&s.owed) && is_letter_at(s.faults.faults().turns.as_slice(), s.letters, letter)
 }
 
 pub fn is_pair(id: u32, tag: u8, pair: Option<(usize, usize)>) -> bool

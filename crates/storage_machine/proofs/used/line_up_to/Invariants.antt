@@ -1,0 +1,10 @@
+use Rattle.std.proofs.Common.{◌-◌, length}
+use Rattle.std.specs.Prelude.{nat_le}
+use Rattle.storage_machine.proofs.UnusedLines.{IsPast}
+use Rattle.storage_machine.proofs.used.line_up_to.Given as goal
+
+abbrev pub invariant-loop-place : goal.invariant-loop-place
+invariant-loop-place l = IsPast (λ number. nat_le number l.most) l.lines l.unused l.place
+
+abbrev pub decreases-loop-place : goal.decreases-loop-place
+decreases-loop-place l = length l.lines - l.place
