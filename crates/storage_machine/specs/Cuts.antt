@@ -1,5 +1,5 @@
 -- Power cuts: which `cut` line of the fault text is due, and what comes after a cut.
-use Rattle.std.specs.Prelude.{ℕ, ◌+◌, ◌==◌, ◌&&◌, nat_le, min, Bool, false, not, if◌then◌else◌, Option, Some, None, List, fold, is_some, position, zip, bytes_eq}
+use Rattle.std.specs.Prelude.{ℕ, ◌==◌, ◌&&◌, nat_le, min, Bool, false, not, if◌then◌else◌, Option, Some, None, List, fold, is_some, position, zip, bytes_eq}
 use Rattle.std.specs.List.{list_any}
 use Rattle.storage_machine.specs.Commands.{next_number}
 use Rattle.storage_machine.specs.Host.{to_do}

@@ -7,12 +7,15 @@ pub mod cuts;
 mod flags;
 pub mod host;
 pub mod jobs;
+mod marks;
+mod put_index;
 mod script;
 pub mod slots;
 mod state;
 mod used;
 
 pub use flags::Flags;
+pub use marks::{Marks, extend};
 pub use script::Script;
 pub use state::{EpochList, Event, Owed, Recovery, Slot, Standing, State, Stop, Task};
 pub use used::UsedLines;

@@ -1,5 +1,5 @@
 // The state of the storage machine.
-use crate::{Flags, Script, UsedLines};
+use crate::{Flags, Marks, Script, UsedLines};
 use storage_model::{BlockList, BusKind, Bytes, Letter, MarkList, Plan, Sequence};
 
 /// How far an issued request has come. A rung task waits for its parameters (CMD44), a named one for its address (CMD45),
@@ -90,7 +90,7 @@ pub struct State {
     pub plan: Plan,
     pub faults: Script,
     pub base: BlockList,
-    pub pend: MarkList,
+    pub pend: Marks,
     /// Of each request, whether it waits to be issued; a held one waits too.
     pub waiting: Flags,
     /// Of each request, how many bus faults named it, up to four.

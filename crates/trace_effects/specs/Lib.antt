@@ -1,4 +1,3 @@
-pub mod Within
 pub mod Cuts
 pub mod Phases
 pub mod Effects

@@ -12,13 +12,12 @@ use crate::effects::{letters_left, over};
 use crate::keeping::{copy_of, keep_marks, with_kept};
 use crate::lists::{place_of, put_in};
 use std::alloc::Global;
-use storage_machine::cuts::{due_line, next_left};
+use storage_machine::cuts::due_line;
 use storage_machine::host::{recovery_steps, to_do};
 use storage_machine::slots::{Change, change_slots, tag_with};
 use storage_machine::{EpochList, Event, Owed, Recovery, State, Stop, UsedLines};
 use storage_model::{
     Block, BlockList, Bytes, End, Job, Letter, Mark, MarkList, NoMemory, Put, Sequence, count_bars,
-    mix_allows,
 };
 
 fn use_line(cuts: &mut UsedLines, line: Option<usize>)
@@ -209,7 +208,7 @@ fn none_left(s: &mut State, alloc: Global)
     ensures { s.new ≡ left_from (powered s.old) None }
 {
     power(s, alloc);
-    s.pend = MarkList::new(alloc);
+    s.pend.clear(alloc);
     let kept = s.kept;
     with_kept(s, kept);
     over(s, Owed::Nothing);
@@ -234,7 +233,7 @@ pub fn after_on(s: &mut State, alloc: Global) -> Result<(), NoMemory>
     ensures ok { OnOk result (s.new ≡ after_on s.old) }
     ensures err { OnErr result (s.new ≡ s.old) }
 {
-    match next_left(s.pend.as_slice(), 0) {
+    match s.pend.next_left(0) {
         None => {
             none_left(s, alloc);
             Ok(())
@@ -254,10 +253,9 @@ fn epochs_with(
     ensures { IfOk result (λ epochs. epochs ≡ epochs_with s.now sector value.now) }
 {
     let base = s.base.as_slice();
-    let pend = s.pend.as_slice();
     let mut epochs = EpochList::new(alloc);
     for epoch in s.epochs.as_slice() {
-        if mix_allows(base, pend, *epoch, sector, value) {
+        if s.pend.allows(base, *epoch, sector, value) {
             epochs.push(*epoch)?;
         }
     }
@@ -286,7 +284,7 @@ fn last_left(s: &mut State, alloc: Global)
     ensures { (sector : ℕ) → s.new ≡ left_on s.old sector None }
 {
     write_all(&mut s.base, s.lefts.as_slice());
-    s.pend = MarkList::new(alloc);
+    s.pend.clear(alloc);
     s.deferred = false;
     s.lefts = MarkList::new(alloc);
     s.epochs = EpochList::new(alloc);
@@ -299,7 +297,7 @@ fn go_on_left(s: &mut State, alloc: Global, sector: u32)
     ensures { s.new ≡ left_on s.old sector (next_left s.old.pend (sector + 1)) }
 {
     let from = u64::from(sector) + 1;
-    match next_left(s.pend.as_slice(), from) {
+    match s.pend.next_left(from) {
         None => last_left(s, alloc),
         Some(_) => over(s, Owed::Left { from }),
     }

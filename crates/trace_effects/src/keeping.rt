@@ -1,6 +1,5 @@
 // Marks that a phase appends, and what is kept of them.
 ghost use Rattle.std.specs.Prelude.{◌≡◌, ◌==◌, ◌+◌, ◌<◌, ◌≤◌, ◌^◌, ◌||◌, ◌++◌, [], ◌∷◌, if◌then◌else◌, nat_lt, not, length, IfOk, OnOk, OnErr, IsTrue, filter};
-ghost use Rattle.trace_effects.specs.Within.{mark_in};
 ghost use Rattle.storage_model.specs.declared.marks.Mark.TheVariants.{Bar};
 ghost use Rattle.storage_machine.specs.Jobs.{is_in_range, phase_blocks, sector_of};
 ghost use Rattle.trace_effects.specs.Phases.{after_marks, after_keep, is_empty, marks_of, named_by, puts_of, sectors_now, with_kept};
@@ -68,18 +67,6 @@ fn barrier_marks(alloc: Global, bars: u32) -> Result<MarkList, NoMemory>
         marks.push(Mark::Bar)?;
     }
     Ok(marks)
-}
-
-/// Appends marks; without memory the list stays as it was.
-pub fn extend(list: &mut MarkList, alloc: Global, more: &[Mark]) -> Result<(), NoMemory>
-    ensures ok { OnOk result (list.new ≡ list.old ++ more.now) }
-    ensures err { OnErr result (list.new ≡ list.old) }
-{
-    let mut marks = mem::replace(list, MarkList::new(alloc)).into_vec();
-    let added = marks.extend_from_slice(more);
-    *list = MarkList::from_vec(marks);
-    added?;
-    Ok(())
 }
 
 /// A list of the same marks.
@@ -158,7 +145,7 @@ pub fn keep_marks(s: &mut State, alloc: Global, marks: &[Mark], job: &Job) -> Re
 {
     let rest = keep_rest(alloc, marks, job)?;
     keep_into(&mut s.base, marks, job);
-    s.pend = rest;
+    s.pend.replace(alloc, rest);
     Ok(())
 }
 
@@ -170,28 +157,16 @@ pub fn with_kept(s: &mut State, kept: bool)
     s.kept = !none && kept;
 }
 
-// Writes a put into sectors that begin at a first one.
-fn write_mark(sectors: &mut BlockList, first: usize, mark: &Mark)
-    ensures { sectors.new ≡ mark_in first sectors.old mark.now }
-{
-    if let Mark::Put(put) = mark {
-        let place = put.sector as usize;
-        if first <= place {
-            put_in(sectors, place - first, put.value);
-        }
-    }
-}
-
 /// The sectors of a read, as they are now.
 pub fn sectors_now(alloc: Global, s: &State, job: &Job) -> Result<BlockList, NoMemory>
     requires { IsTrue (is_in_range job.now (length s.now.base)) }
     ensures { IfOk result (λ sectors. sectors ≡ sectors_now s.now job.now) }
 {
+    let base = s.base.as_slice();
     let first = sector_of(job) as usize;
-    let end = first + usize::from(blocks_of(job));
-    let mut sectors = BlockList::from_vec(Vec::from_slice(alloc, &s.base.as_slice()[first..end])?);
-    for mark in s.pend.as_slice() {
-        write_mark(&mut sectors, first, mark);
+    let mut sectors = BlockList::new(alloc);
+    for k in 0..blocks_of(job) {
+        sectors.push(s.pend.value(base, first + usize::from(k)))?;
     }
     Ok(sectors)
 }

@@ -7,13 +7,13 @@ ghost use Rattle.trace_rules.specs.Phases.{is_whole, owed_by, phase_holds, tag_d
 ghost use Rattle.storage_machine.specs.Sound.{IsSound};
 ghost use Rattle.storage_model.specs.Plan.{IsValidJob, blocks_of};
 
-use crate::keeping::{copy_of, extend, keep_marks, marks_of, remove_tag, sectors_now, with_kept};
+use crate::keeping::{copy_of, keep_marks, marks_of, remove_tag, sectors_now, with_kept};
 use crate::lists::put_in;
 use std::alloc::Global;
 use storage_machine::commands::{due, hit};
 use storage_machine::jobs::{is_direct, is_read, job_of, must_keep};
 use storage_machine::slots::{Change, change_slots};
-use storage_machine::{Event, Owed, Standing, State};
+use storage_machine::{Event, Owed, Standing, State, extend};
 use storage_model::{BlockList, BusKind, Job, Letter, NoMemory};
 use trace_rules::phases::{is_whole, owed_by, tag_due};
 
@@ -35,7 +35,7 @@ fn append_marks(s: &mut State, alloc: Global, job: &Job, count: u16) -> Result<(
     ensures err { OnErr result (s.new ≡ s.old) }
 {
     let marks = marks_of(alloc, s, job, count)?;
-    extend(&mut s.pend, alloc, marks.as_slice())?;
+    s.pend.extend(alloc, marks.as_slice())?;
     s.bars = bars_with(s.bars, job);
     Ok(())
 }

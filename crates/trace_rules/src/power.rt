@@ -4,11 +4,11 @@ ghost use Rattle.storage_model.specs.declared.trace.End.TheVariants.{Fault};
 ghost use Rattle.trace_rules.specs.Lines.{cut_holds, end_holds, is_allowed, is_dead, is_left_owed, left_by_owed, left_holds, lost_by_owed, lost_holds, may_be_on, may_cut, may_end, off_holds, on_holds};
 
 use crate::lines::{is_free, is_number};
-use storage_machine::cuts::{first_lost, next_left};
+use storage_machine::cuts::first_lost;
 use storage_machine::host::to_do;
 use storage_machine::slots::{Question, has};
 use storage_machine::{Owed, State};
-use storage_model::{Block, End, mix_allows};
+use storage_model::{Block, End};
 
 fn may_cut(s: &State, owed: &Owed) -> bool
     ensures { result ≡ may_cut s.now owed.now }
@@ -65,11 +65,10 @@ fn is_allowed(s: &State, sector: usize, value: &Block) -> bool
     ensures { result ≡ is_allowed s.now sector value.now }
 {
     let base = s.base.as_slice();
-    let pend = s.pend.as_slice();
     s.epochs
         .as_slice()
         .iter()
-        .any(|epoch| mix_allows(base, pend, *epoch, sector, value))
+        .any(|epoch| s.pend.allows(base, *epoch, sector, value))
 }
 
 fn left_by_owed(s: &State, sector: u32, value: &Block, owed: &Owed) -> bool
@@ -77,7 +76,7 @@ fn left_by_owed(s: &State, sector: u32, value: &Block, owed: &Owed) -> bool
 {
     match owed {
         Owed::Left { from } => {
-            if !is_number(sector, next_left(s.pend.as_slice(), *from)) {
+            if !is_number(sector, s.pend.next_left(*from)) {
                 return false;
             }
             let sector = sector as usize;

@@ -1,6 +1,7 @@
-use Rattle.std.proofs.Common.{◌≡◌, ◌-◌, fold, take, drop}
-use Rattle.trace_effects.specs.Within.{mark_in}
+use Rattle.std.proofs.Common.{◌≡◌, take, drop}
+use Rattle.storage_machine.specs.Jobs.{sector_of}
+use Rattle.storage_model.specs.Contents.{contents_now}
 use Rattle.trace_effects.proofs.keeping.sectors_now.Given as goal
 
-abbrev pub invariant-loop-mark : goal.invariant-loop-mark
-invariant-loop-mark l = l.sectors ≡ fold (mark_in l.first) (take (l.end - l.first) (drop l.first l.s.base)) (take l.mark-index l.s.pend)
+abbrev pub invariant-loop-k : goal.invariant-loop-k
+invariant-loop-k l = l.sectors ≡ take l.k (drop (sector_of l.job) (contents_now l.s.base l.s.pend))
