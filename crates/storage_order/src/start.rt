@@ -4,7 +4,9 @@ ghost use Rattle.storage_order.specs.Accept.{started};
 
 use std::alloc::Global;
 use storage_machine::slots::no_tasks;
-use storage_machine::{EpochList, Event, Flags, Marks, Owed, Recovery, Script, State, Stop, UsedLines};
+use storage_machine::{
+    EpochList, Event, Flags, Marks, Owed, Recovery, Script, State, Stop, UsedLines,
+};
 use storage_model::{BlockList, Bytes, Faults, MarkList, NoMemory, Plan, Sequence};
 
 fn zeros(alloc: Global, count: usize) -> Result<Bytes, NoMemory>

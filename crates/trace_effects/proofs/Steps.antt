@@ -1,5 +1,5 @@
 -- The silent steps of a recovery that are taken before a cut.
-use Rattle.std.proofs.Common.{inl, inr, ◌≡◌, ◌∙◌, ◌⊎◌, Bool, true, false, Option, ℕ, cond, ◌||◌, List, refl, ap, sym}
+use Rattle.std.proofs.Common.{inl, inr, ◌≡◌, ◌∙◌, ◌⊎◌, Bool, true, false, Option, ℕ, cond, ◌||◌, List, refl, ap}
 use Rattle.std.specs.List.{list_any}
 use Rattle.storage_machine.specs.Host.{recovery_steps, recovery_steps_at, to_do}
 use Rattle.storage_machine.specs.Slots.{has, no_tasks}
