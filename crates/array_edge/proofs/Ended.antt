@@ -79,6 +79,8 @@ ends_passed i i' result p p' f c n r f_fits c_fits n_fits r_fits on inner_on pow
   uncut = λ is. count_same i.cuts i'.cuts c (ends.uncut is);
   lost = λ is. (lost_inner i.cuts i'.cuts c i.powered p inner_on (ends.lost is).0, power ∙ (ends.lost is).1);
   unfailed = λ is. count_same i.faults i'.faults f (ends.unfailed is);
+  failed_once = let once = ends.failed_once in omega (arith, once);
+  cut_once = let once = ends.cut_once in omega (arith, once);
   off = λ no. absurd (true≢false (sym on ∙ no));
 }
 
@@ -97,6 +99,8 @@ ends_hit true i i' p p' f f' c c' n r f_fits c_fits n_fits r_fits on inner_on po
   uncut = λ is. absurd (cc);
   lost = λ _. (rw cuts (inl (rose_own i.cuts i'.cuts c ends.cuts c_fits)), power);
   unfailed = λ _. rw faults (count_same i.faults i'.faults f ends.calm.0);
+  failed_once = let same = ap (λ c. c.value) ends.calm.0 in omega (arith, same, faults);
+  cut_once = let same = ap (λ c. c.value) ends.calm.1 in omega (arith, same, cuts);
   off = λ no. absurd (true≢false (sym on ∙ no));
 }
 ends_hit false i i' p p' f f' c c' n r f_fits c_fits n_fits r_fits on inner_on power faults cuts ends = record {
@@ -110,6 +114,8 @@ ends_hit false i i' p p' f f' c c' n r f_fits c_fits n_fits r_fits on inner_on p
   uncut = λ _. rw cuts (count_same i.cuts i'.cuts c ends.calm.1);
   lost = λ is. absurd (cc);
   unfailed = λ is. absurd (cc);
+  failed_once = let same = ap (λ c. c.value) ends.calm.0 in omega (arith, same, faults);
+  cut_once = let same = ap (λ c. c.value) ends.calm.1 in omega (arith, same, cuts);
   off = λ no. absurd (true≢false (sym on ∙ no));
 }
 
@@ -133,6 +139,8 @@ ends_after i between i' page seen result on fetched ends =
       uncut = λ is. ends.uncut is ∙ cuts;
       lost = λ is. (rw (cuts, powered) at (ends.lost is).0, (ends.lost is).1);
       unfailed = λ is. ends.unfailed is ∙ faults;
+      failed_once = let once = ends.failed_once in let same = ap (λ c. c.value) faults in omega (arith, once, same);
+      cut_once = let once = ends.cut_once in let same = ap (λ c. c.value) cuts in omega (arith, once, same);
       off = λ no. absurd (true≢false (sym on ∙ no));
     }
 

@@ -1,5 +1,5 @@
 -- What an array of flash pages stands for, and what its calls do to it.
-use Rattle.std.specs.Prelude.{◌≡◌, ◌⊎◌, ◌||◌, ℕ, Bool, true, false, List, [], Option, IfSome, Result, Ok, Err, is_ok, IsErrOf, OnOk, OnErr, option_map, slice_index_or, slice_set}
+use Rattle.std.specs.Prelude.{◌≡◌, ◌⊎◌, ◌||◌, ◌+◌, ◌≤◌, ℕ, Bool, true, false, List, [], Option, IfSome, Result, Ok, Err, is_ok, IsErrOf, OnOk, OnErr, option_map, slice_index_or, slice_set}
 use Rattle.storage_model.specs.Count.{Count, Later, RaisedByOne, Rose}
 pub use Rattle.storage_model.specs.Granule.{page_at}
 use Rattle.storage_model.specs.Granule.{IsMix}
@@ -33,9 +33,9 @@ pub record IsTorn (old : Option (List Block)) (page : ℕ) (block : Block) (new 
   pub mix : IfSome old (λ pages. IsMix (page_at pages page) block left)
   pub told : new ≡ with_page old page left
 
--- How a call ends. Counts don't fall. `Failed` is told only where the array failed in this call and was not cut, `PowerLost`
--- only where the power was off or was cut in this call, and the array did not fail. A call that ends well neither failed nor
--- was cut. With the power off nothing changes.
+-- How a call ends. Counts don't fall, and none of a call's failures and cuts is counted twice. `Failed` is told only where the
+-- array failed in this call and was not cut, `PowerLost` only where the power was off or was cut in this call, and the array did
+-- not fail. A call that ends well neither failed nor was cut. With the power off nothing changes.
 pub record Ends (old new : ArrayState) (result : Result (Unit {0}) ArrayEnd) : Type 0 where
   pub faults : Later old.faults new.faults
   pub cuts : Later old.cuts new.cuts
@@ -47,6 +47,8 @@ pub record Ends (old new : ArrayState) (result : Result (Unit {0}) ArrayEnd) : T
   pub uncut : IsErrOf result Failed → new.cuts ≡ old.cuts
   pub lost : IsErrOf result PowerLost → (Rose old.cuts new.cuts ⊎ (old.powered ≡ false)) × (new.powered ≡ false)
   pub unfailed : IsErrOf result PowerLost → new.faults ≡ old.faults
+  pub failed_once : new.faults.value ≤ old.faults.value + 1
+  pub cut_once : new.cuts.value ≤ old.cuts.value + 1
   pub off : old.powered ≡ false → (result ≡ Err PowerLost) × (new ≡ old)
 
 -- After a program the array is not settled, but where it failed before it wrote anything: then it stands as it was.

@@ -1,5 +1,5 @@
 -- Stagings one after the other.
-use Rattle.std.proofs.Common.{◌≡◌, ℕ, ◌<◌, ◌≤◌, ◌==◌, zero, suc, inl, inr, Bool, true, false, not, nat_lt, Some, List, [], ◌∷◌, drop, filter, length, remove, take, slice_get, Result, Ok, Err, refl, sym, ap, subst, ◌∙◌, arith}
+use Rattle.std.proofs.Common.{◌≡◌, ℕ, ◌+◌, ◌<◌, ◌≤◌, ◌==◌, zero, suc, inl, inr, Bool, true, false, not, nat_lt, Some, List, [], ◌∷◌, drop, filter, length, remove, take, slice_get, Result, Ok, Err, refl, sym, ap, subst, ◌∙◌, arith}
 use Rattle.std.proofs.lemmas.List.{take_all}
 use Rattle.std.proofs.lemmas.Bool.{cases_Bool, eq-eqb, ltb-true, ne_eqb, or_parts, ltb-false}
 use Rattle.std.specs.List.{AllByRecursion, list_any}
@@ -36,8 +36,12 @@ rose_both : (a b c : Count) → Later a b → Rose b c → Rose a c
 rose_both a b c first (inl more) = let one = first.value in inl (omega arith)
 rose_both a b c first (inr stands) = inr stands
 
+-- it didn't rise at first, and then by one at most
+once : (a b c : Count) → b ≡ a → c.value ≤ b.value + 1 → c.value ≤ a.value + 1
+once a b c same more = let value = ap (λ count. count.value) same in omega (arith, value, more)
+
 pub ends_none : (array : ArrayState) → StoreEnds array array well
-ends_none array = record { count = refl; tells = refl; faults = later_same array.faults; cuts = later_same array.cuts; ok = refl; calm = (refl, refl); flash = λ h. cc; uncut = λ h. cc; lost = λ h. cc; unfailed = λ h. cc }
+ends_none array = record { count = refl; tells = refl; faults = later_same array.faults; cuts = later_same array.cuts; ok = refl; calm = (refl, refl); flash = λ h. cc; uncut = λ h. cc; lost = λ h. cc; unfailed = λ h. cc; failed_once = omega arith; cut_once = omega arith }
 
 pub ends_both : (first next last : ArrayState) (result : Result (Unit {0}) StoreEnd) → StoreEnds first next well → StoreEnds next last result → StoreEnds first last result
 ends_both first next last (Ok done) a b = record {
@@ -51,6 +55,8 @@ ends_both first next last (Ok done) a b = record {
   uncut = λ h. cc;
   lost = λ h. cc;
   unfailed = λ h. cc;
+  failed_once = once first.faults next.faults last.faults a.calm.0 b.failed_once;
+  cut_once = once first.cuts next.cuts last.cuts a.calm.1 b.cut_once;
 }
 ends_both first next last (Err Flash) a b = record {
   count = b.count ∙ a.count;
@@ -63,6 +69,8 @@ ends_both first next last (Err Flash) a b = record {
   uncut = λ h. b.uncut h ∙ a.calm.1;
   lost = λ h. cc;
   unfailed = λ h. cc;
+  failed_once = once first.faults next.faults last.faults a.calm.0 b.failed_once;
+  cut_once = once first.cuts next.cuts last.cuts a.calm.1 b.cut_once;
 }
 ends_both first next last (Err PowerLost) a b = record {
   count = b.count ∙ a.count;
@@ -75,6 +83,8 @@ ends_both first next last (Err PowerLost) a b = record {
   uncut = λ h. cc;
   lost = λ h. let l = b.lost h in (elim l.0 [ inl cut ↦ inl (rose_both first.cuts next.cuts last.cuts a.cuts cut) | inr off ↦ inr (sym a.ok ∙ off) ], l.1);
   unfailed = λ h. b.unfailed h ∙ a.calm.0;
+  failed_once = once first.faults next.faults last.faults a.calm.0 b.failed_once;
+  cut_once = once first.cuts next.cuts last.cuts a.calm.1 b.cut_once;
 }
 
 pub are_staged_none : (h : Holders) → Fit h → AreStaged h h

@@ -1,5 +1,5 @@
 -- What staging keeps.
-use Rattle.std.specs.Prelude.{◌≡◌, ◌⊎◌, ◌<◌, ◌≤◌, ◌==◌, ℕ, true, false, not, filter, [], ◌∷◌, ◌++◌, List, Result, Ok, OnOk, IsErrOf, is_some, length}
+use Rattle.std.specs.Prelude.{◌≡◌, ◌⊎◌, ◌+◌, ◌<◌, ◌≤◌, ◌==◌, ℕ, true, false, not, filter, [], ◌∷◌, ◌++◌, List, Result, Ok, OnOk, IsErrOf, is_some, length}
 use Rattle.std.specs.List.{list_any}
 use Rattle.storage_model.specs.declared.block.Block.{Block}
 use Rattle.storage_model.specs.declared.marks.Put.{Put}
@@ -71,8 +71,8 @@ abbrev pub Places : Put → Cache → ArrayState → Cache → ArrayState → Ty
 Places put old_cache old_array cache array = (base : List Block) (pend : List Mark) → put.sector < length base
     → LinesStand old_cache (shown_by old_array) base pend → LinesStand cache (shown_by array) base (pend ++ PutMark put ∷ [])
 
--- How a staging ends. An array that tells its pages goes on telling them, and one that doesn't tells none. Counts don't fall.
--- `Flash` is told only where the array failed in this call and was not cut, `PowerLost` only where the power was cut in this
+-- How a staging ends. An array that tells its pages goes on telling them, and one that doesn't tells none. Counts don't fall,
+-- and rise by one at most. `Flash` is told only where the array failed in this call and was not cut, `PowerLost` only where the power was cut in this
 -- call or was off, and the array did not fail. A call that ends well neither failed nor was cut.
 pub record StageEnds (old new : ArrayState) (result : Result (Unit {0}) StageEnd) : Type 0 where
   pub count : new.count ≡ old.count
@@ -85,3 +85,5 @@ pub record StageEnds (old new : ArrayState) (result : Result (Unit {0}) StageEnd
   pub uncut : IsErrOf result StageFlash → new.cuts ≡ old.cuts
   pub lost : IsErrOf result StagePowerLost → (Rose old.cuts new.cuts ⊎ (old.powered ≡ false)) × (new.powered ≡ false)
   pub unfailed : IsErrOf result StagePowerLost → new.faults ≡ old.faults
+  pub failed_once : new.faults.value ≤ old.faults.value + 1
+  pub cut_once : new.cuts.value ≤ old.cuts.value + 1

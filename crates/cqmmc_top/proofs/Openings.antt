@@ -1,5 +1,5 @@
 -- The openings of a run, by the lines of its fault text.
-use Rattle.std.proofs.Common.{◌≡◌, ◌⊎◌, ◌≤◌, ◌+◌, ◌∙◌, inl, inr, ℕ, Bool, true, false, Result, Ok, Err, ap, refl, sym, subst, arith}
+use Rattle.std.proofs.Common.{◌≡◌, ◌⊎◌, ◌<◌, ◌≤◌, ◌+◌, ◌∙◌, inl, inr, ℕ, Bool, true, false, Result, Ok, Err, ap, refl, sym, subst, arith}
 use Rattle.std.proofs.lemmas.Bool.{true≢false}
 use Rattle.storage_model.specs.Count.{Count, Later, Rose}
 use Rattle.storage_model.specs.declared.faults.Faults.{Faults}
@@ -23,6 +23,11 @@ cuts_made (none_cut array) = (inl (omega arith), refl)
 cuts_made (one_cut cuts old middle new end before is start) =
     let made = cuts_made before in
     (rose_more cuts old.cuts middle.cuts new.cuts made.0 (start.ends.lost is).0 start.ends.cuts, start.ends.unfailed is ∙ made.1)
+
+-- and raised it by one at most
+cut_few : {n : ℕ} {a b : ArrayState} → AreCut n a b → b.cuts.value ≤ a.cuts.value + n
+cut_few (none_cut array) = omega arith
+cut_few (one_cut cuts old middle new end before is start) = let few = cut_few before in let once = start.ends.cut_once in omega (arith, few, once)
 
 not_rose : (old new : Count) → IsStill old new → Rose old new → ⊥
 not_rose old new still (inl up) = let low = still.0 in omega (arith, low, up)
@@ -58,20 +63,62 @@ module _ (faults : Faults) (old new : ArrayState) (calls : HasCalls faults old n
       let is = (exact fails cuts).0 in
       omega (arith, value, least, is)
 
-  numbered : (end : Result (Unit {0}) StartEnd) → IsStartAgain 8 first last end → IsStill old.faults new.faults → IsStill old.cuts new.cuts → AreNumbered end (fail_lines faults old new calls) (program_cuts faults old new calls)
-  numbered (Ok done) made fails cuts = none (made.last.ends.calm.0 ∙ (cuts_made made.before).1) fails cuts
-  numbered (Err Flash) made fails cuts =
-      let is = (exact fails cuts).0 in
-      some_line (fail_lines faults old new calls) old.faults new.faults fails
-      (rose_either failed (fail_lines faults old new calls) old.faults new.faults (omega (arith, is)) few_fails (subst (λ c. Rose c last.faults) (cuts_made made.before).1 (made.last.ends.flash refl).0))
-  numbered (Err PowerLost) made fails cuts =
+  -- by so much as the count of cuts rose, so many lines of a cut were reached at most
+  few_cut : (n : ℕ) → last.cuts.value ≤ first.cuts.value + n → IsStill old.faults new.faults → IsStill old.cuts new.cuts → program_cuts faults old new calls ≤ n
+  few_cut n rose fails cuts =
+      let most : new.cuts.value + cut ≤ old.cuts.value + 0 + n = rose in
+      let least = met.cuts_later in
       let is = (exact fails cuts).1 in
-      let rose = rose_more made.cuts first.cuts made.middle.cuts last.cuts (cuts_made made.before).0 (made.last.ends.lost refl).0 made.last.ends.cuts in (
-        none (made.last.ends.unfailed refl ∙ (cuts_made made.before).1) fails cuts,
-        eight_lines (program_cuts faults old new calls) old.cuts new.cuts cuts
-            (rose_parts 8 cut (program_cuts faults old new calls) old.cuts new.cuts (omega (arith, is)) few_cuts (subst (λ n. RoseBy n first.cuts last.cuts) (made.spent refl) rose)),
-      )
-  numbered (Err NoImage) made fails cuts = none ((made.last.ends.bad refl).1 ∙ (cuts_made made.before).1) fails cuts
+      omega (arith, most, least, is)
+
+  few_fail : (n : ℕ) → last.faults.value ≤ first.faults.value + n → IsStill old.faults new.faults → IsStill old.cuts new.cuts → fail_lines faults old new calls ≤ n
+  few_fail n rose fails cuts =
+      let most : new.faults.value + failed ≤ old.faults.value + 0 + n = rose in
+      let least = met.faults_later in
+      let is = (exact fails cuts).0 in
+      omega (arith, most, least, is)
+
+  -- the last opening wasn't cut
+  below : (end : Result (Unit {0}) StartEnd) (made : IsStartAgain 8 first last end) → last.cuts ≡ made.middle.cuts → IsStill old.faults new.faults → IsStill old.cuts new.cuts → program_cuts faults old new calls < 8
+  below end made same fails cuts =
+      let value : last.cuts.value ≡ made.middle.cuts.value = ap (λ c. c.value) same in
+      let most = cut_few made.before in
+      let few = few_cut made.cuts (omega (arith, value, most)) fails cuts in
+      let room = made.room in
+      omega (arith, few, room)
+
+  -- the array failed in the last one
+  one_fail : IsStartAgain {T = Unit {0}} 8 first last (Err Flash) → IsStill old.faults new.faults → IsStill old.cuts new.cuts → fail_lines faults old new calls ≡ 1
+  one_fail made fails cuts =
+      let is = (exact fails cuts).0 in
+      let before = (cuts_made made.before).1 in
+      let value : made.middle.faults.value ≡ first.faults.value = ap (λ c. c.value) before in
+      let once = made.last.ends.failed_once in
+      let most = few_fail 1 (omega (arith, value, once)) fails cuts in
+      let least =
+      some_line (fail_lines faults old new calls) old.faults new.faults fails
+      (rose_either failed (fail_lines faults old new calls) old.faults new.faults (omega (arith, is)) few_fails (subst (λ c. Rose c last.faults) before (made.last.ends.flash refl).0)) in
+      omega (arith, most, least)
+
+  -- all eight were cut
+  eight_cut : IsStartAgain {T = Unit {0}} 8 first last (Err PowerLost) → IsStill old.faults new.faults → IsStill old.cuts new.cuts → program_cuts faults old new calls ≡ 8
+  eight_cut made fails cuts =
+      let is = (exact fails cuts).1 in
+      let rose = rose_more made.cuts first.cuts made.middle.cuts last.cuts (cuts_made made.before).0 (made.last.ends.lost refl).0 made.last.ends.cuts in
+      let least =
+      eight_lines (program_cuts faults old new calls) old.cuts new.cuts cuts
+      (rose_parts 8 cut (program_cuts faults old new calls) old.cuts new.cuts (omega (arith, is)) few_cuts (subst (λ n. RoseBy n first.cuts last.cuts) (made.spent refl) rose)) in
+      let before = cut_few made.before in
+      let once = made.last.ends.cut_once in
+      let all = made.spent refl in
+      let most = few_cut 8 (omega (arith, before, once, all)) fails cuts in
+      omega (arith, most, least)
+
+  numbered : (end : Result (Unit {0}) StartEnd) → IsStartAgain 8 first last end → IsStill old.faults new.faults → IsStill old.cuts new.cuts → AreNumbered end (fail_lines faults old new calls) (program_cuts faults old new calls)
+  numbered (Ok done) made fails cuts = (none (made.last.ends.calm.0 ∙ (cuts_made made.before).1) fails cuts, below (Ok done) made made.last.ends.calm.1 fails cuts)
+  numbered (Err Flash) made fails cuts = (one_fail made fails cuts, below (Err Flash) made (made.last.ends.uncut refl) fails cuts)
+  numbered (Err PowerLost) made fails cuts = (none (made.last.ends.unfailed refl ∙ (cuts_made made.before).1) fails cuts, eight_cut made fails cuts)
+  numbered (Err NoImage) made fails cuts = (none ((made.last.ends.bad refl).1 ∙ (cuts_made made.before).1) fails cuts, below (Err NoImage) made (made.last.ends.bad refl).2 fails cuts)
 
   pub openings : (end : Result (Unit {0}) StartEnd) → IsStartAgain 8 first last end → AreOpenings faults old new calls end
   openings end made = record { powered = powered; failed = failed; cut = cut; made = made; exact = exact; lines = numbered end made }

@@ -1,5 +1,5 @@
 -- Why a run is refused, and what it begins with.
-use Rattle.std.specs.Prelude.{◌≡◌, ◌⊎◌, ◌≤◌, ℕ, ◌+◌, Bool, List, Option, Result, Ok, Err, true, false}
+use Rattle.std.specs.Prelude.{◌≡◌, ◌⊎◌, ◌<◌, ◌≤◌, ℕ, ◌+◌, Bool, List, Option, Result, Ok, Err, true, false}
 use Rattle.storage_model.specs.Count.{Count, Rose, count_of}
 use Rattle.storage_model.specs.declared.faults.Faults.{Faults}
 use Rattle.storage_model.specs.declared.plan.Plan.{Plan}
@@ -54,13 +54,13 @@ seen_in array powered failed cut programs fetches = record {
   settled = array.settled;
 }
 
--- How many lines of the fault text number a call of the openings, by how these ended. One at least is a line of a failing call where the array failed, and
--- none is else; at least eight are lines of a cut where all eight openings were cut.
+-- How many lines of the fault text number a call of the openings, by how these ended. One is a line of a failing call where the array failed, and none is
+-- else. A run ends for want of power exactly where eight lines of a cut number calls of its openings.
 abbrev pub AreNumbered : Result (Unit {0}) StartEnd → (fails cuts : ℕ) → Type 0
-AreNumbered (Ok done) fails cuts = fails ≡ 0
-AreNumbered (Err Flash) fails cuts = 1 ≤ fails
-AreNumbered (Err PowerLost) fails cuts = (fails ≡ 0) × (8 ≤ cuts)
-AreNumbered (Err NoImage) fails cuts = fails ≡ 0
+AreNumbered (Ok done) fails cuts = (fails ≡ 0) × (cuts < 8)
+AreNumbered (Err Flash) fails cuts = (fails ≡ 1) × (cuts < 8)
+AreNumbered (Err PowerLost) fails cuts = (fails ≡ 0) × (cuts ≡ 8)
+AreNumbered (Err NoImage) fails cuts = (fails ≡ 0) × (cuts < 8)
 
 -- The openings of a run's image, at most eight in a row, each but the last of which was cut. Each makes the calls of an opening of the pages that it
 -- finds, up to the first that fails or is cut. Where the array itself neither fails nor is cut meanwhile, each failure and each cut has a line of the

@@ -35,8 +35,9 @@ abbrev pub IsOldOrNew : Option (List Block) → ℕ → Block → Option (List B
 IsOldOrNew old sector block new = (new ≡ old) ⊎ (new ≡ with_page old sector block)
 
 -- How a call of an intent store ends. An array that tells its pages goes on telling them, and one that doesn't tells none.
--- Counts don't fall. `Flash` is told only where the array failed in this call and was not cut, `PowerLost` only where the
--- power was cut in this call or was off, and the array did not fail. A call that ends well neither failed nor was cut.
+-- Counts don't fall, and rise by one at most. `Flash` is told only where the array failed in this call and was not cut,
+-- `PowerLost` only where the power was cut in this call or was off, and the array did not fail. A call that ends well neither
+-- failed nor was cut.
 pub record StoreEnds {T : Type 0} (old new : ArrayState) (result : Result T StoreEnd) : Type 0 where
   pub count : new.count ≡ old.count
   pub tells : is_some new.told ≡ is_some old.told
@@ -48,6 +49,8 @@ pub record StoreEnds {T : Type 0} (old new : ArrayState) (result : Result T Stor
   pub uncut : IsErrOf result Flash → new.cuts ≡ old.cuts
   pub lost : IsErrOf result PowerLost → (Rose old.cuts new.cuts ⊎ (old.powered ≡ false)) × (new.powered ≡ false)
   pub unfailed : IsErrOf result PowerLost → new.faults ≡ old.faults
+  pub failed_once : new.faults.value ≤ old.faults.value + 1
+  pub cut_once : new.cuts.value ≤ old.cuts.value + 1
 
 -- an opening hands on why a call of it ended
 abbrev pub start_end : StoreEnd → StartEnd
@@ -55,7 +58,7 @@ start_end Flash = StartFlash
 start_end PowerLost = StartPowerLost
 
 -- How an opening ends. It begins with the power on. An array that tells its pages goes on telling them, and one that doesn't
--- tells none. Counts don't fall. `Flash` is told only where the array failed in this call and was not cut, `PowerLost` only
+-- tells none. Counts don't fall, and rise by one at most. `Flash` is told only where the array failed in this call and was not cut, `PowerLost` only
 -- where it was cut and did not fail; else it neither failed nor was cut.
 pub record StartEnds {T : Type 0} (old new : ArrayState) (result : Result T StartEnd) : Type 0 where
   pub count : new.count ≡ old.count
@@ -68,6 +71,8 @@ pub record StartEnds {T : Type 0} (old new : ArrayState) (result : Result T Star
   pub uncut : IsErrOf result StartFlash → new.cuts ≡ old.cuts
   pub lost : IsErrOf result StartPowerLost → Rose old.cuts new.cuts × (new.powered ≡ false)
   pub unfailed : IsErrOf result StartPowerLost → new.faults ≡ old.faults
+  pub failed_once : new.faults.value ≤ old.faults.value + 1
+  pub cut_once : new.cuts.value ≤ old.cuts.value + 1
   pub bad : IsErrOf result BadImage → (new.powered ≡ true) × (new.faults ≡ old.faults) × (new.cuts ≡ old.cuts)
 
 -- the array shows an image, where it tells its pages
