@@ -1,1 +1,4 @@
-
+mod Ones
+mod Runs
+mod Steps
+mod Whole
