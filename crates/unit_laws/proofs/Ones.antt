@@ -1,10 +1,9 @@
 -- Units of one sector: what is said of them is what is said of their sectors.
-use Rattle.std.proofs.Common.{◌≡◌, ◌∙◌, ℕ, ◌+◌, ◌*◌, ◌/◌, ◌%◌, ◌==◌, ◌&&◌, ◌||◌, if◌then◌else◌, Bool, true, false, inl, inr, All, List, [], ◌∷◌, ◌++◌, filter, map, length, refl, sym, ap, ap₂, subst, one-mul, div-one, arith, Some, None}
-use Rattle.std.proofs.Math.Bool.{or-false}
+use Rattle.std.proofs.Common.{◌≡◌, ◌∙◌, ℕ, ◌+◌, ◌%◌, ◌==◌, ◌&&◌, ◌||◌, if◌then◌else◌, Bool, true, false, inl, inr, All, List, [], ◌∷◌, ◌++◌, filter, map, length, refl, sym, ap, ap₂, subst, one-mul, div-one, arith, Some, None}
 use Rattle.std.proofs.lemmas.Bool.{and_from, and_left, and_parts, cases_Bool, eq-eqb}
 use Rattle.std.proofs.lemmas.List.{map-append}
 use Rattle.std.proofs.lemmas.List.Elements.{All-cons, All-head, All-nil, All-tail, filter-append}
-use Rattle.std.specs.List.{list_any, range_with_len}
+use Rattle.std.specs.List.{list_any}
 use Rattle.storage_model.specs.Contents.{EpochPut, bars, before_epoch, numbered, puts_at, puts_if, sector_at}
 use Rattle.storage_model.specs.Left.{every_below, is_left, is_mix, is_mix_of_segment, mix_at, segments, some_below}
 use Rattle.storage_model.specs.declared.block.Block.{Block}
@@ -14,7 +13,7 @@ use Rattle.storage_model.specs.declared.marks.Mark.TheVariants.{Put as PutMark, 
 use Rattle.storage_model.specs.declared.marks.Put.{Put}
 use Rattle.unit_laws.specs.Laws.{IsMixOfSector, run_of}
 use Rattle.unit_laws.specs.Mixes.{left_by, part_mix, parted, unit_mix, unit_puts, units_left, values_on}
-use Rattle.unit_laws.specs.Writes.{StandInRuns, part_marks, run_marks}
+use Rattle.unit_laws.specs.Writes.{StandInRuns, run_marks}
 
 -- forms with units of one sector
 abbrev pub of_one : Bool → Form

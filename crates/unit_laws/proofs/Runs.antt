@@ -1,11 +1,11 @@
 -- The marks of a write by units: they are the puts of its blocks, and stand in runs.
-use Rattle.std.proofs.Common.{◌≡◌, ◌∙◌, ℕ, zero, suc, ◌+◌, ◌-◌, ◌*◌, ◌/◌, ◌%◌, ◌==◌, ◌&&◌, nat_lt, Bool, true, false, inl, inr, List, [], ◌∷◌, ◌++◌, flat_map, map, refl, sym, ap, ap₂, Some, None, add_comm, append-nil, append_assoc, div-add-mod', div-one, mul-add, mul-one, mul-suc, mul-zero, mul_comm, one-mul, arith}
+use Rattle.std.proofs.Common.{◌≡◌, ◌∙◌, ℕ, zero, suc, ◌+◌, ◌-◌, ◌*◌, ◌/◌, ◌%◌, ◌&&◌, nat_lt, Bool, inl, inr, List, [], ◌∷◌, ◌++◌, flat_map, map, refl, sym, ap, ap₂, Some, None, add_comm, append-nil, append_assoc, div-add-mod', div-one, mul-add, mul-one, mul-suc, mul-zero, mul_comm, one-mul, arith}
 use Rattle.std.proofs.lemmas.Bool.{cases_Bool, eqb-true}
 use Rattle.std.proofs.lemmas.List.{map-append}
 use Rattle.std.specs.List.{range_with_len}
 use Rattle.storage_machine.specs.declared.state.State.{State}
 use Rattle.storage_model.specs.Plan.{block_at}
-use Rattle.storage_model.specs.Unit.{is_aligned, whole_units}
+use Rattle.storage_model.specs.Unit.{whole_units}
 use Rattle.storage_model.specs.declared.block.Block.{Block}
 use Rattle.storage_model.specs.declared.form.Form.{Form}
 use Rattle.storage_model.specs.declared.marks.Mark.{Mark}
@@ -15,7 +15,7 @@ use Rattle.storage_model.specs.declared.plan.Job.{Job}
 use Rattle.storage_model.specs.declared.plan.Job.TheVariants.{Read, Write, Flush, Barrier, Status}
 use Rattle.trace_effects.specs.Phases.{puts_of}
 use Rattle.unit_laws.specs.Laws.{ArePuts, AreRuns, IsPhaseOfSectors, IsPlain}
-use Rattle.unit_laws.specs.Writes.{Run, StandInRuns, marks_of_units, part_marks, puts_of_unit, run_marks, unit_bar}
+use Rattle.unit_laws.specs.Writes.{Run, StandInRuns, marks_of_units, puts_of_unit, run_marks, unit_bar}
 
 -- numbers from a first one on, in two parts
 range_both : (a m n : ℕ) → range_with_len a (m + n) ≡ range_with_len a m ++ range_with_len (a + m) n
@@ -80,8 +80,8 @@ moved blocks sector fill reliable first at zero e = refl
 moved blocks sector fill reliable first at (suc n) e =
     let back : first - sector ≡ at = omega arith in
     ap₂ ◌∷◌
-      (ap₂ (λ s j. PutMark (record { sector = s; value = block_at blocks fill j; reliable = reliable })) e back)
-      (moved blocks sector fill reliable (first + 1) (at + 1) n (omega arith))
+    (ap₂ (λ s j. PutMark (record { sector = s; value = block_at blocks fill j; reliable = reliable })) e back)
+    (moved blocks sector fill reliable (first + 1) (at + 1) n (omega arith))
 
 run_is : (form : Form) (blocks : List Block) (sector q : ℕ) (fill : Fill) (reliable : Bool) (k : ℕ) → sector ≡ form.unit * q
     → puts_of_unit form blocks sector fill reliable k ≡ run_marks form (run_at blocks sector fill reliable (q + k))

@@ -1,5 +1,5 @@
 -- What the machine does by units: where units are sectors, and where they are several.
-use Rattle.std.proofs.Common.{◌≡◌, ◌∙◌, ℕ, ◌+◌, ◌<◌, ◌%◌, ◌==◌, ◌&&◌, nat_le, nat_lt, Bool, true, false, not, inl, inr, List, filter, length, refl, sym, ap, arith}
+use Rattle.std.proofs.Common.{◌≡◌, ◌∙◌, ℕ, ◌+◌, ◌&&◌, nat_le, nat_lt, Bool, true, false, not, inl, inr, filter, length, refl, sym, ap, arith}
 use Rattle.std.proofs.lemmas.Bool.{and_from, cases_lt, eq-eqb, le-leb, le-ltb, lt-leb, lt-ltb}
 use Rattle.storage_machine.specs.Jobs.{is_in_range, job_of, sector_of}
 use Rattle.storage_machine.specs.declared.state.Owed.TheVariants.{Nothing}

@@ -1,5 +1,5 @@
 -- A unit that is written reliably: its run is one more segment, which holds one value of each of its sectors.
-use Rattle.std.proofs.Common.{◌≡◌, ◌∙◌, ℕ, zero, suc, ◌+◌, ◌-◌, ◌*◌, ◌/◌, ◌<◌, ◌≤◌, ◌==◌, ◌&&◌, ◌||◌, Bool, true, false, inl, inr, List, [], ◌∷◌, ◌++◌, filter, map, refl, sym, ap, ap₂, append-nil, append_assoc, mul_comm, arith}
+use Rattle.std.proofs.Common.{◌≡◌, ◌∙◌, ℕ, zero, suc, ◌+◌, ◌-◌, ◌*◌, ◌/◌, ◌<◌, ◌≤◌, ◌==◌, ◌&&◌, ◌||◌, Bool, true, inl, inr, List, [], ◌∷◌, ◌++◌, filter, map, refl, sym, ap, ap₂, append-nil, append_assoc, mul_comm, arith}
 use Rattle.std.proofs.Math.Bool.{or-false}
 use Rattle.std.proofs.lemmas.Bool.{and_from, and_right, cases_Bool, cases_lt, eq-eqb, ne_eqb}
 use Rattle.std.proofs.lemmas.List.Folds.{list_any-append}
@@ -12,10 +12,10 @@ use Rattle.storage_model.specs.Unit.{sectors_of_unit, unit_of}
 use Rattle.storage_model.specs.declared.block.Block.{Block}
 use Rattle.storage_model.specs.declared.form.Form.{Form}
 use Rattle.storage_model.specs.declared.marks.Mark.{Mark}
-use Rattle.storage_model.specs.declared.marks.Mark.TheVariants.{Put as PutMark, Bar}
+use Rattle.storage_model.specs.declared.marks.Mark.TheVariants.{Put as PutMark}
 use Rattle.storage_model.specs.declared.marks.Put.{Put}
 use Rattle.unit_laws.proofs.Ones.{parted_at, parted_in}
-use Rattle.unit_laws.specs.Laws.{IsOldOrNew, is_new}
+use Rattle.unit_laws.specs.Laws.{IsOldOrNew}
 use Rattle.unit_laws.specs.Mixes.{as_puts, left_by, parted, unit_mix, unit_puts, values_on}
 use Rattle.unit_laws.specs.Writes.{Run, run_marks}
 
@@ -42,7 +42,7 @@ kept : (form : Form) (run : Run) (e at n : ℕ) → form.unit * run.unit ≤ at 
 kept form run e at zero above below = refl
 kept form run e at (suc n) above below =
     rw (eq-eqb e e refl, eq-eqb (at / form.unit) run.unit (in_unit form.unit run.unit at above (omega arith)))
-      (ap (λ puts. run_put run at ∷ puts) (kept form run e (at + 1) n (omega arith) (omega arith)))
+    (ap (λ puts. run_put run at ∷ puts) (kept form run e (at + 1) n (omega arith) (omega arith)))
 
 unit_puts-run : (form : Form) (pend : List Mark) (run : Run)
     → unit_puts form (bars pend) run.unit (pend ++ run_marks form run) ≡ unit_puts form (bars pend) run.unit pend ++ run_puts run (form.unit * run.unit) form.unit
@@ -57,7 +57,7 @@ parted-past : (run : Run) (first : ℕ) (segment : List Put) (at n : ℕ) → fi
 parted-past run first segment at zero h = rw append-nil refl
 parted-past run first segment at (suc n) h =
     rw (and_right run.reliable (at == first) (ne_eqb at first (omega arith)))
-      (parted-past run first (segment ++ run_put run at ∷ []) (at + 1) n (omega arith) ∙ ap (λ puts. puts ∷ []) (append_assoc segment (run_put run at ∷ []) (run_puts run (at + 1) n)))
+    (parted-past run first (segment ++ run_put run at ∷ []) (at + 1) n (omega arith) ∙ ap (λ puts. puts ∷ []) (append_assoc segment (run_put run at ∷ []) (run_puts run (at + 1) n)))
 
 parted-run : (run : Run) (first n : ℕ) (segment puts : List Put) → run.reliable ≡ true → 1 ≤ n
     → parted first segment (puts ++ run_puts run first n) ≡ parted first segment puts ++ run_puts run first n ∷ []
@@ -108,6 +108,6 @@ old_or_new form base pend run left some reliable =
     let old = unit_puts form (bars pend) run.unit pend in
     let new = run_puts run first form.unit in
     rw (before_epoch-append (bars pend) base pend (run_marks form run) (omega arith), unit_puts-run form pend run)
-      (ap (list_any (left_by sectors left)) (parted-run run first form.unit start old reliable some)
-      ∙ (list_any-append (left_by sectors left) (parted first start old) (new ∷ [])
-      ∙ ap (λ b. list_any (left_by sectors left) (parted first start old) || b) (or-false (left_by sectors left new) ∙ left_new run left first form.unit first form.unit (omega arith) (omega arith))))
+    (ap (list_any (left_by sectors left)) (parted-run run first form.unit start old reliable some)
+    ∙ (list_any-append (left_by sectors left) (parted first start old) (new ∷ [])
+    ∙ ap (λ b. list_any (left_by sectors left) (parted first start old) || b) (or-false (left_by sectors left new) ∙ left_new run left first form.unit first form.unit (omega arith) (omega arith))))

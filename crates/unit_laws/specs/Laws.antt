@@ -1,17 +1,17 @@
 -- Where a unit is one sector each of these is what is said of sectors; and what is so of units of several.
-use Rattle.std.specs.Prelude.{◌≡◌, ◌↔◌, ℕ, ◌+◌, ◌*◌, ◌≤◌, ◌||◌, Bool, true, false, List, [], ◌∷◌, ◌++◌}
+use Rattle.std.specs.Prelude.{◌≡◌, ◌↔◌, ℕ, ◌*◌, ◌≤◌, ◌||◌, Bool, true, false, List, [], ◌∷◌, ◌++◌}
 use Rattle.std.specs.List.{list_all}
 use Rattle.card_store.specs.Staging.{HasRoom}
 use Rattle.card_store.specs.Store.{Contents, with_put}
 use Rattle.epoch_cache.specs.Cache.{Cache}
 use Rattle.image_form.specs.Form.{IsSuper}
 use Rattle.image_form.specs.declared.superblock.Super.{Super}
-use Rattle.storage_machine.specs.Jobs.{is_in_range, job_of, sector_of}
+use Rattle.storage_machine.specs.Jobs.{is_in_range, job_of}
 use Rattle.storage_machine.specs.declared.state.State.{State}
 use Rattle.storage_machine.specs.declared.state.Owed.TheVariants.{Nothing}
 use Rattle.storage_machine.specs.declared.state.Stop.TheVariants.{Align}
 use Rattle.storage_model.specs.Contents.{bars}
-use Rattle.storage_model.specs.Left.{is_left, is_mix, mix_at}
+use Rattle.storage_model.specs.Left.{is_mix, mix_at}
 use Rattle.storage_model.specs.Unit.{is_aligned, sectors_of_unit, whole_units}
 use Rattle.storage_model.specs.declared.block.Block.{Block}
 use Rattle.storage_model.specs.declared.form.Form.{Form}
@@ -23,7 +23,7 @@ use Rattle.std.specs.Prelude.{length}
 use Rattle.trace_effects.specs.Cuts.{epochs_with, is_deferred}
 use Rattle.trace_effects.specs.Effects.{after_address, over}
 use Rattle.trace_effects.specs.Phases.{bars_with, marks_of, puts_of}
-use Rattle.unit_laws.specs.Mixes.{part_mix, unit_mix, units_left}
+use Rattle.unit_laws.specs.Mixes.{part_mix, unit_mix}
 use Rattle.unit_laws.specs.Rooms.{HasUnitRoom, form_told, most_lines, with_unit}
 use Rattle.unit_laws.specs.Steps.{address_taken, epochs_by_units, is_deferred_by, is_task_aligned}
 use Rattle.unit_laws.specs.Writes.{Run, StandInRuns, ends_unit, held_back, marks_of_units, phase_bars, phase_marks, run_marks}
