@@ -2,3 +2,5 @@ mod Ones
 mod Runs
 mod Steps
 mod Whole
+mod Parts
+mod Lines

@@ -1,5 +1,5 @@
 -- Where a unit is one sector each of these is what is said of sectors; and what is so of units of several.
-use Rattle.std.specs.Prelude.{◌≡◌, ◌↔◌, ℕ, ◌*◌, ◌≤◌, ◌||◌, Bool, true, false, List, [], ◌∷◌, ◌++◌}
+use Rattle.std.specs.Prelude.{◌≡◌, ◌↔◌, ℕ, ◌+◌, ◌-◌, ◌*◌, ◌<◌, ◌≤◌, ◌||◌, Bool, true, false, List, [], ◌∷◌, ◌++◌, length}
 use Rattle.std.specs.List.{list_all}
 use Rattle.card_store.specs.Staging.{HasRoom}
 use Rattle.card_store.specs.Store.{Contents, with_put}
@@ -19,12 +19,11 @@ use Rattle.storage_model.specs.declared.marks.Mark.{Mark}
 use Rattle.storage_model.specs.declared.marks.Put.{Put}
 use Rattle.storage_model.specs.declared.plan.Fill.{Fill}
 use Rattle.storage_model.specs.declared.plan.Job.{Job}
-use Rattle.std.specs.Prelude.{length}
 use Rattle.trace_effects.specs.Cuts.{epochs_with, is_deferred}
 use Rattle.trace_effects.specs.Effects.{after_address, over}
 use Rattle.trace_effects.specs.Phases.{bars_with, marks_of, puts_of}
 use Rattle.unit_laws.specs.Mixes.{part_mix, unit_mix}
-use Rattle.unit_laws.specs.Rooms.{HasUnitRoom, form_told, most_lines, with_unit}
+use Rattle.unit_laws.specs.Rooms.{HasUnitRoom, form_told, lines_after, lines_needed, most_lines, with_unit}
 use Rattle.unit_laws.specs.Steps.{address_taken, epochs_by_units, is_deferred_by, is_task_aligned}
 use Rattle.unit_laws.specs.Writes.{Run, StandInRuns, ends_unit, held_back, marks_of_units, phase_bars, phase_marks, run_marks}
 
@@ -69,10 +68,20 @@ pub record IsStoreOfSectors (form : Form) (put : Put) (cache : Cache) : Type 0 w
 abbrev pub IsToldPlain : Block → Super → ℕ → Type 0
 IsToldPlain block super policy = IsSuper block super → IsPlain (form_told super policy)
 
--- Units of any size. Without the policy the marks of units are the puts of their blocks.
+-- Units of any size. The blocks that moved are whole units and those held back, and the last block of a unit ends it.
+pub record AreUnits (form : Form) (count : ℕ) : Type 0 where
+  pub all : form.unit * whole_units form.unit count + held_back form count ≡ count
+  pub fewer : held_back form count < form.unit
+  pub last : ends_unit form count ≡ true → held_back form count + 1 ≡ form.unit
+
+-- Without the policy the marks of units are the puts of their blocks.
 abbrev pub ArePuts : Form → List Block → ℕ → Fill → Bool → ℕ → ℕ → Type 0
 ArePuts form blocks sector fill reliable before units =
     form.fifo ≡ false → marks_of_units form blocks sector fill reliable before units ≡ puts_of blocks sector fill reliable (form.unit * units)
+
+-- The barriers of a phase are counted, up to the last number.
+abbrev pub AreBars : Form → State → Job → ℕ → Type 0
+AreBars form s job count = s.bars ≤ 4294967295 → s.bars + bars (phase_marks form s job count) ≡ phase_bars form s.bars job count
 
 -- With the policy or without it, they stand in runs where the write begins with a unit.
 abbrev pub AreRuns : Form → List Block → ℕ → Fill → Bool → ℕ → ℕ → Type 0
@@ -87,6 +96,10 @@ pub record StopsInOrder (form : Form) (s : State) (n id : ℕ) : Type 0 where
   pub other : is_in_range (job_of s.plan.jobs id) (length s.base) ≡ true → is_task_aligned form (job_of s.plan.jobs id) ≡ false
       → address_taken form s n id ≡ over (record s { n = n; stop = Align id }) Nothing
 
+-- Where all sectors of a unit are known, the part of it is the unit.
+abbrev pub IsPartWhole : Form → List Block → List Mark → ℕ → ℕ → (ℕ → Block) → Type 0
+IsPartWhole form base pend e k left = 1 ≤ form.unit → part_mix form base pend e (form.unit * k + (form.unit - 1)) left ≡ unit_mix form base pend e k left
+
 -- A unit that is written reliably is left as it was, or new on all its sectors.
 abbrev pub is_new : Form → Run → (ℕ → Block) → Bool
 is_new form run left = list_all (λ s. is_mix (run.value s ∷ []) (left s)) (sectors_of_unit form.unit run.unit)
@@ -95,3 +108,10 @@ abbrev pub IsOldOrNew : Form → List Block → List Mark → Run → (ℕ → B
 IsOldOrNew form base pend run left =
     1 ≤ form.unit → run.reliable ≡ true
     → unit_mix form base (pend ++ run_marks form run) (bars pend) run.unit left ≡ (unit_mix form base pend (bars pend) run.unit left || is_new form run left)
+
+-- A unit's puts add the lines that it needs, and into a cache without lines goes any unit.
+abbrev pub AddsLines : Form → Run → Cache → Type 0
+AddsLines form run cache = length (lines_after form run cache) ≡ length cache.lines + lines_needed form run.unit cache
+
+abbrev pub FitsEmpty : Form → (k last lines : ℕ) → Type 0
+FitsEmpty form k last lines = HasUnitRoom form k (record { lines = []; last = last; room = most_lines form lines })

@@ -3,4 +3,4 @@
 
 mod laws;
 
-pub use laws::{units_hold_together, units_of_one_are_sectors};
+pub use laws::{units_have_room, units_hold_together, units_of_one_are_sectors};
