@@ -1,0 +1,6 @@
+mod Ones
+mod Runs
+mod Steps
+mod Whole
+mod Parts
+mod Lines

@@ -1,0 +1,5 @@
+pub mod Writes
+pub mod Mixes
+pub mod Steps
+pub mod Rooms
+pub mod Laws
