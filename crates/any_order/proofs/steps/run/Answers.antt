@@ -1,5 +1,5 @@
 use Rattle.end_laws.specs.Ends.{AreToCome}
-use Rattle.world_cases.proofs.runs.run.Goals as goal
+use Rattle.any_order.proofs.steps.run.Goals as goal
 
 pub go_on-ended-requires : goal.go_on-ended-requires
 go_on-ended-requires g c =
