@@ -8,10 +8,9 @@ mod steps;
 use crate::steps::serve;
 use array_edge::FileArray;
 use io_edge::{StdSink, StdSource, take_all};
-use std::env;
 use std::fs::File;
-use std::io;
 use std::process::ExitCode;
+use std::{env, io};
 use storage_model::Bytes;
 
 const PAGE_SIZE: u64 = 512;

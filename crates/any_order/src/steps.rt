@@ -2,6 +2,7 @@
 ghost use Rattle.std.specs.Prelude.{◌≡◌, OnOk};
 ghost use Rattle.storage_model.specs.Faults.{AreValid};
 ghost use Rattle.storage_model.specs.Plan.{IsValidPlan};
+ghost use Rattle.whole_run.specs.Whole.{IsNew};
 ghost use Rattle.world_state.specs.Ties.{IsReady};
 
 use array_edge::{Array, ScriptArray};
@@ -16,7 +17,12 @@ use world::{Finish, World};
 const MOST_STEPS: usize = 100_000;
 
 /// Whether a run came to a good end: of the letters of the first text, the requests of the second and the faults of the third.
-pub fn serve<A: Array + Drop, K: Sink>(alloc: Global, texts: [&[u8]; 3], array: A, out: &mut K) -> bool {
+pub fn serve<A: Array + Drop, K: Sink>(
+    alloc: Global,
+    texts: [&[u8]; 3],
+    array: A,
+    out: &mut K,
+) -> bool {
     let (Ok(order), Ok(plan), Ok(faults)) = (
         read_faults(alloc, texts[0]),
         read_requests(alloc, texts[1]),
@@ -39,14 +45,7 @@ pub fn serve<A: Array + Drop, K: Sink>(alloc: Global, texts: [&[u8]; 3], array: 
         turns,
     };
     let mut array = ScriptArray::over(array, hits);
-    run(
-        alloc,
-        plan,
-        faults,
-        order.turns.as_slice(),
-        &mut array,
-        out,
-    )
+    run(alloc, plan, faults, order.turns.as_slice(), &mut array, out)
 }
 
 // The same over an array with the faults of the text.
@@ -61,24 +60,22 @@ fn run<A: Array, K: Sink>(
     requires plan { IsValidPlan plan }
     requires faults { AreValid faults }
 {
-    let Ok(mut world) = World::start(alloc, plan, faults) else {
-        return false;
-    };
-    if world.boot(array, out).is_err() {
-        return false;
+    match World::start(alloc, plan, faults) {
+        Ok(mut world) => matches!(take(&mut world, order, array, out), Ok(Finish::Off)),
+        Err(_) => false,
     }
-    matches!(go_on(&mut world, order, array, out), Ok(Finish::Off))
 }
 
-// Its events and its end, behind the first line. `Again` comes where it took too many events, or its last flush lost power twice.
-fn go_on<A: Array, K: Sink>(
+// From its first line to its end. `Again` comes where it took too many events, or its last flush lost power twice.
+fn take<A: Array, K: Sink>(
     world: &mut World,
     order: &[Letter],
     array: &mut A,
     out: &mut K,
 ) -> Result<Finish, Halt>
-    requires ready { IsReady world.old.path (A.state array.old) }
+    requires new { IsNew world.old }
 {
+    world.boot(array, out)?;
     take_steps(world, order, array, out)?;
     if !world.over() {
         return Ok(Finish::Again);
