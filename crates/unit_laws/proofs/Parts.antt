@@ -20,7 +20,7 @@ use Rattle.trace_effects.specs.Phases.{puts_of}
 use Rattle.unit_laws.proofs.Runs.{are_puts}
 use Rattle.unit_laws.specs.Laws.{AreBars, AreUnits, IsPartWhole}
 use Rattle.unit_laws.specs.Mixes.{left_by, part_mix, unit_mix, unit_segments}
-use Rattle.unit_laws.specs.Writes.{ends_unit, held_back, marks_of_units, puts_of_unit, unit_bar}
+use Rattle.unit_laws.specs.Writes.{marks_of_units, puts_of_unit, unit_bar}
 
 -- blocks
 
